@@ -1,0 +1,9 @@
+-- Independence: nothing in the machine reads what is not active. One file for each file of definitions, and Step for the theorem.
+pub mod Choice
+pub mod Products
+pub mod Forward
+pub mod Backward
+pub mod Updates
+pub mod Solves
+pub mod Refusals
+pub mod Step

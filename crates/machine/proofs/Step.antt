@@ -1,0 +1,76 @@
+-- Two states that agree give, for each call, the same answer, the same solved vector and states that agree.
+use mathlib.Core.Path.{_≡_, refl, subst}
+use mathlib.Core.Bool.{not}
+use mathlib.Core.List.{List}
+use mathlib.Core.Option.{Option, none, some}
+use Prim.Native.Nat.{ℕ, suc, _+_, _-_, _≤_, _<_}
+use native.Mathlib.Omega.{arith}
+use lib.Dec.{leb, eqb, nleb→lt}
+use lib.ListN.{length}
+use Rattle.numerics.specs.NumberForm.{NumberForm}
+use Rattle.machine.specs.Tables.{Table, State}
+use Rattle.machine.specs.Solves.{diagonals}
+use Rattle.machine.specs.Calls.{Call, push, replaceRow, replaceColumn, remove, solve, solveTransposed, Answer, Result, _orElse_, refuseIf}
+use Rattle.machine.specs.Machine.{refusal, accepted, stepUnder, step}
+use Rattle.machine.specs.Agreement.{Agree, Same}
+use Rattle.machine.proofs.Choice.{within-state}
+use Rattle.machine.proofs.Updates.{pushed-same, column-replaced-same, row-replaced-same, removed-same}
+use Rattle.machine.proofs.Solves.{diagonals-same, solution-same, solution-transposed-same}
+use Rattle.machine.proofs.Refusals.{or-else-none, refuse-if-none}
+
+module _ (N : NumberForm) (E T : N .Value) where
+  open NumberForm N using (Value)
+
+  module _ (n : ℕ) (L U L′ U′ : Table Value) (hL : (i j : ℕ) → i < n → j < n → L i j ≡ L′ i j) (hU : (i j : ℕ) → i ≤ j → j < n → U i j ≡ U′ i j) where
+    abbrev S : State Value
+    S = record { n = n; L = L; U = U }
+
+    abbrev R : State Value
+    R = record { n = n; L = L′; U = U′ }
+
+    states-agree : Agree S R
+    states-agree = record { n = refl; L = hL; U = hU }
+
+    refusal-same : (c : Call Value) → refusal N S c ≡ refusal N R c
+    unfolding refusal
+    refusal-same (push row column d) = refl
+    refusal-same (replaceRow r row) = refl
+    refusal-same (replaceColumn k column) = refl
+    refusal-same (remove r k) = refl
+    refusal-same (solve b) = λ t. refuseIf (not (eqb (length b) n)) 7 orElse diagonals-same N n U U′ hU n (omega arith) t
+    refusal-same (solveTransposed b) = λ t. refuseIf (not (eqb (length b) n)) 7 orElse diagonals-same N n U U′ hU n (omega arith) t
+
+    -- an index that was not refused
+    index-below : (i : ℕ) (number : ℕ) → refuseIf (leb n i) number ≡ none → i < n
+    index-below i number e = nleb→lt n i (refuse-if-none (leb n i) number e)
+
+    accepted-same : (c : Call Value) → refusal N S c ≡ none → Same (accepted N E T S c) (accepted N E T R c)
+    unfolding accepted refusal
+    accepted-same (push row column d) e =
+        record { answer = refl; solved = refl; after = within-state (suc n) (omega arith) (pushed-same N E T n L U L′ U′ hL hU row column d) }
+    accepted-same (replaceRow r row) e =
+        let h = index-below r 5 (or-else-none _ _ e .0) in
+        record { answer = refl; solved = refl; after = within-state n (omega arith) (row-replaced-same N E T n L U L′ U′ hL hU r row h) }
+    accepted-same (replaceColumn k column) e =
+        let h = index-below k 6 (or-else-none _ _ e .0) in
+        record { answer = refl; solved = refl; after = within-state n (omega arith) (column-replaced-same N E T n L U L′ U′ hL hU k column h) }
+    accepted-same (remove r k) e =
+        let o = or-else-none _ _ e in
+        let h = removed-same N E T n L U L′ U′ hL hU r k (index-below r 5 (o .0)) (index-below k 6 (o .1)) in
+        record { answer = refl; solved = refl; after = within-state (n - 1) (omega arith) h }
+    accepted-same (solve b) e = record { answer = refl; solved = solution-same N n U U′ hU L L′ hL b; after = states-agree }
+    accepted-same (solveTransposed b) e = record { answer = refl; solved = solution-transposed-same N n U U′ hU L L′ hL b; after = states-agree }
+
+    step-same-at : (c : Call Value) → Same (step N E T S c) (step N E T R c)
+    unfolding step stepUnder
+    step-same-at c =
+        subst (λ (o : Option Answer). Same (stepUnder N E T (refusal N S c) S c) (stepUnder N E T o R c)) (refusal-same c) (go (refusal N S c) refl)
+      where
+        go : (o : Option Answer) → refusal N S c ≡ o → Same (stepUnder N E T o S c) (stepUnder N E T o R c)
+        go none e = accepted-same c e
+        go (some a) e = record { answer = refl; solved = refl; after = states-agree }
+
+  pub step-same : (S R : State Value) (c : Call Value) → Agree S R → Same (step N E T S c) (step N E T R c)
+  step-same S R c h =
+      subst (λ (n : ℕ). Same (step N E T S c) (step N E T (record { n = n; L = R .L; U = R .U }) c)) (h .n)
+      (step-same-at (S .n) (S .L) (S .U) (R .L) (R .U) (h .L) (h .U) c)

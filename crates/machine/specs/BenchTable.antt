@@ -1,0 +1,101 @@
+-- Document 01's bench table for the machine, and computed lines for the traps that its rows don't show. One finite check of the definitions.
+use mathlib.Core.Path.{_≡_, refl}
+use mathlib.Core.Bool.{cond}
+use mathlib.Core.List.{List, [], _∷_}
+use mathlib.Core.Option.{none, some}
+use Prim.Native.Nat.{ℕ, zero, suc, _+_, _-_, _^_}
+use lib.Dec.{eqb}
+use lib.Ieee.{Float, nan, binary64, add, sub, mul, div, le, lt, eq, neg, ofBits}
+use Rattle.numerics.specs.NumberForm.{ieee, nearest, absolute, double, whole}
+use Rattle.numerics.specs.Tolerances.{managedEpsilon, zeroBasedEpsilon, updateTiny, managedTiny, zeroBasedTiny}
+use Rattle.numerics.specs.PairStep.{pairStep, first, second}
+use Rattle.machine.specs.Tables.{State, tabulate}
+use Rattle.machine.specs.Products.{sum, product, productTransposed}
+use Rattle.machine.specs.Forward.{copyDenseToRow, transformRows, forwardActs, forwardTransform, forwardRow, forwardRows, forward}
+use Rattle.machine.specs.Backward.{copyRowToDense, trim, clearDense, backwardSkips, backwardTransform, backwardRow, backwardRows, backward}
+use Rattle.machine.specs.Updates.{putColumn, putSelected, columnCopied, bordered, columnCleared, unitRow, restoredFrom, restored, pushed, columnReplaced, rowReplacedFrom, rowReplaced, columnDropped, removed}
+use Rattle.machine.specs.Solves.{backSubstitution, forwardSubstitution, solution, solutionTransposed, diagonals}
+use Rattle.machine.specs.Calls.{Call, push, replaceRow, replaceColumn, remove, solve, solveTransposed, done, moved, refusedAt, Result}
+use Rattle.machine.specs.Machine.{refusal, accepted, stepUnder, step}
+
+-- a call under the managed tolerances. Who unfolds `call` unfolds the whole machine
+call : State Float → Call Float → Result Float
+unfolding step stepUnder accepted refusal diagonals pushed bordered columnReplaced putColumn restored restoredFrom putSelected rowReplaced rowReplacedFrom columnCleared unitRow columnDropped columnCopied removed forward copyDenseToRow forwardRows forwardRow forwardActs forwardTransform backward copyRowToDense trim backwardRows backwardRow clearDense backwardSkips backwardTransform transformRows pairStep first second product productTransposed sum backSubstitution forwardSubstitution solution solutionTransposed nearest absolute managedEpsilon updateTiny add sub mul div le lt eq neg ofBits
+call = step (ieee binary64) (managedEpsilon binary64) (managedTiny binary64)
+
+-- a call under the zero-based tolerances
+callZeroBased : State Float → Call Float → Result Float
+unfolding call zeroBasedEpsilon
+callZeroBased = step (ieee binary64) zeroBasedEpsilon zeroBasedTiny
+
+-- the active entries
+pub record Factors : Type 0 where
+  pub L : List (List Float)
+  pub U : List (List Float)
+
+factors : State Float → Factors
+factors S = record {
+  L = tabulate (S .n) (λ i. tabulate (S .n) (λ j. S .L i j));
+  U = tabulate (S .n) (λ i. tabulate (S .n - i) (λ j. S .U i (i + j)));
+}
+
+-- dimension 0: a NaN stands wherever no call has written
+empty : State Float
+empty = record { n = 0; L = λ i j. nan; U = λ i j. nan }
+
+-- a state of dimension 1
+single : Float → State Float
+unfolding call empty
+single d = call empty (push [] [] d) .after
+
+P : State Float
+unfolding call single
+P = call (single (whole 2)) (push (whole 4 ∷ []) (whole 6 ∷ []) (whole 1)) .after
+
+-- the identity
+identity : ℕ → State Float
+identity k = record { n = k; L = λ i j. cond (eqb i j) (whole 1) (whole 0); U = λ i j. cond (eqb i j) (whole 1) (whole 0) }
+
+pub record BenchTable : Type 0 where
+  P-is : factors P ≡ record { L = (whole 0 ∷ whole 1 ∷ []) ∷ (whole 1 ∷ neg (double 1 2) ∷ []) ∷ []; U = (whole 4 ∷ whole 1 ∷ []) ∷ (double 11 2 ∷ []) ∷ [] }
+  P-solve : call P (solve (whole 8 ∷ whole 5 ∷ [])) .solved ≡ whole 1 ∷ whole 1 ∷ []
+  P-transpose-solve : call P (solveTransposed (whole 6 ∷ whole 7 ∷ [])) .solved ≡ whole 1 ∷ whole 1 ∷ []
+  P-replace-column : factors (call P (replaceColumn 0 (whole 1 ∷ whole 8 ∷ [])) .after) ≡ record { L = (whole 0 ∷ whole 1 ∷ []) ∷ (whole 1 ∷ neg (double 1 8) ∷ []) ∷ []; U = (whole 8 ∷ whole 1 ∷ []) ∷ (double 47 8 ∷ []) ∷ [] }
+  P-replace-row : factors (call P (replaceRow 0 (whole 1 ∷ whole 1 ∷ [])) .after) ≡ record { L = (whole 0 ∷ whole 1 ∷ []) ∷ (whole 1 ∷ neg (double 1 4) ∷ []) ∷ []; U = (whole 4 ∷ whole 1 ∷ []) ∷ (double 3 4 ∷ []) ∷ [] }
+  P-remove : factors (call P (remove 1 1) .after) ≡ record { L = (whole 1 ∷ []) ∷ []; U = (whole 2 ∷ []) ∷ [] }
+  P-remove-answer : call P (remove 1 1) .answer ≡ moved none none
+  zero-diagonal : call (single (neg (whole 0))) (solve (whole 5 ∷ [])) .answer ≡ refusedAt 9 0
+  zero-diagonal-stands : call (single (neg (whole 0))) (solve (whole 5 ∷ [])) .solved ≡ whole 5 ∷ []
+  -- remove names the row and the column that it moved, each in its place
+  removed-row : call P (remove 0 1) .answer ≡ moved (some 1) none
+  removed-column : call P (remove 1 0) .answer ≡ moved none (some 1)
+  -- Forward's guard is no negation of Backward's: a NaN passes Forward untouched
+  forward-nan : factors (call (single (whole 2)) (push (nan ∷ []) (whole 6 ∷ []) (whole 1)) .after) ≡ record { L = (whole 1 ∷ whole 0 ∷ []) ∷ (whole 0 ∷ whole 1 ∷ []) ∷ []; U = (whole 2 ∷ whole 6 ∷ []) ∷ (whole 1 ∷ []) ∷ [] }
+  -- and Backward's is none of Forward's: a NaN is eliminated there
+  backward-nan : call (identity 3) (replaceColumn 0 (whole 1 ∷ nan ∷ whole 1 ∷ [])) .after .U 1 1 ≡ nan
+  -- dense(2) is cleared though Backward skips row 2: else U(1,2) would take what stood there
+  dense-cleared : call (identity 4) (replaceColumn 0 (whole 1 ∷ whole 1 ∷ whole 0 ∷ whole 1 ∷ [])) .after .U 1 2 ≡ whole 0
+  -- 8191 × 2^-65 lies between the two E's: it passes Forward in one interface and is eliminated in the other
+  managed-epsilon : factors (call (single (whole 1)) (push (double 8191 (2 ^ 65) ∷ []) (whole 0 ∷ []) (whole 1)) .after) ≡ record { L = (whole 1 ∷ whole 0 ∷ []) ∷ (whole 0 ∷ whole 1 ∷ []) ∷ []; U = (whole 1 ∷ whole 0 ∷ []) ∷ (whole 1 ∷ []) ∷ [] }
+  zero-based-epsilon : factors (callZeroBased (single (whole 1)) (push (double 8191 (2 ^ 65) ∷ []) (whole 0 ∷ []) (whole 1)) .after) ≡ record { L = (whole 1 ∷ whole 0 ∷ []) ∷ (neg (double 8191 (2 ^ 65)) ∷ whole 1 ∷ []) ∷ []; U = (whole 1 ∷ whole 0 ∷ []) ∷ (whole 1 ∷ []) ∷ [] }
+
+pub benchTable : BenchTable
+unfolding call callZeroBased factors empty single P identity
+benchTable = record {
+  P-is = refl;
+  P-solve = refl;
+  P-transpose-solve = refl;
+  P-replace-column = refl;
+  P-replace-row = refl;
+  P-remove = refl;
+  P-remove-answer = refl;
+  zero-diagonal = refl;
+  zero-diagonal-stands = refl;
+  removed-row = refl;
+  removed-column = refl;
+  forward-nan = refl;
+  backward-nan = refl;
+  dense-cleared = refl;
+  managed-epsilon = refl;
+  zero-based-epsilon = refl;
+}

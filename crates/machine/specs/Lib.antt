@@ -1,0 +1,10 @@
+pub mod Tables
+pub mod Products
+pub mod Forward
+pub mod Backward
+pub mod Updates
+pub mod Solves
+pub mod Calls
+pub mod Machine
+pub mod Agreement
+pub mod BenchTable

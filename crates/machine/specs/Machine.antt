@@ -1,0 +1,121 @@
+-- The plain machine: which calls it refuses, what an accepted call leaves, one step, and a run of a list of calls. Below stand computed lines for the order
+-- of the refusals, one for each two conditions that can hold at once.
+use mathlib.Core.Path.{_≡_, refl}
+use mathlib.Core.Bool.{not, _&&_, cond, false}
+use mathlib.Core.List.{List, [], _∷_}
+use mathlib.Core.Option.{Option, none, some}
+use Prim.Native.Nat.{ℕ, suc, _-_}
+use lib.Dec.{leb, eqb}
+use lib.ListN.{length, getD}
+use lib.Ieee.{Float, nan, inf, binary64, neg, eq, ofBits}
+use Rattle.numerics.specs.NumberForm.{NumberForm, nearest, ieee, whole}
+use Rattle.machine.specs.Tables.{State, stateOf}
+use Rattle.machine.specs.Updates.{pushed, columnReplaced, rowReplaced, removed}
+use Rattle.machine.specs.Solves.{solution, solutionTransposed, diagonals}
+use Rattle.machine.specs.Calls.{Call, push, replaceRow, replaceColumn, remove, solve, solveTransposed, Answer, done, moved, refused, refusedAt, Result, _orElse_, refuseIf, given}
+
+module _ (N : NumberForm) where
+  open NumberForm N using (Value)
+
+  -- Push: 7. Replace row: 5, 7. Replace column: 6, 7. Remove: 5, 6. Solves: 7, then the diagonal upward.
+  unfoldable pub refusal : State Value → Call Value → Option Answer
+  refusal S (push row column d) = refuseIf (not (eqb (length row) (S .n) && eqb (length column) (S .n))) 7
+  refusal S (replaceRow r row) = refuseIf (leb (S .n) r) 5 orElse refuseIf (not (eqb (length row) (S .n))) 7
+  refusal S (replaceColumn k column) = refuseIf (leb (S .n) k) 6 orElse refuseIf (not (eqb (length column) (S .n))) 7
+  refusal S (remove r k) = refuseIf (leb (S .n) r) 5 orElse refuseIf (leb (S .n) k) 6
+  refusal S (solve b) = refuseIf (not (eqb (length b) (S .n))) 7 orElse diagonals N (S .U) (S .n)
+  refusal S (solveTransposed b) = refuseIf (not (eqb (length b) (S .n))) 7 orElse diagonals N (S .U) (S .n)
+
+module _ (N : NumberForm) (E T : N .Value) where
+  open NumberForm N using (Value)
+
+  -- Remove answers p = n − 1 as moved row if r ≠ p, as moved column if k ≠ p. Both solves leave n, L and U standing.
+  unfoldable pub accepted : State Value → Call Value → Result Value
+  accepted S (push row column d) =
+      record { answer = done; solved = []; after = stateOf (suc (S .n)) (pushed N E T (S .n) (S .L) (S .U) row column d) }
+  accepted S (replaceRow r row) =
+      record { answer = done; solved = []; after = stateOf (S .n) (rowReplaced N E T (S .n) (S .L) (S .U) r row) }
+  accepted S (replaceColumn k column) =
+      record { answer = done; solved = []; after = stateOf (S .n) (columnReplaced N E T (S .n) (S .L) (S .U) k column) }
+  accepted S (remove r k) =
+      let p = S .n - 1 in
+      record {
+        answer = moved (cond (eqb r p) none (some p)) (cond (eqb k p) none (some p));
+        solved = [];
+        after = stateOf p (removed N E T p (S .L) (S .U) r k);
+      }
+  accepted S (solve b) = record { answer = done; solved = solution N S b; after = S }
+  accepted S (solveTransposed b) = record { answer = done; solved = solutionTransposed N S b; after = S }
+
+  -- a call under a refusal: a refusal changes nothing
+  unfoldable pub stepUnder : Option Answer → State Value → Call Value → Result Value
+  stepUnder none S c = accepted S c
+  stepUnder (some a) S c = record { answer = a; solved = given c; after = S }
+
+  unfoldable pub step : State Value → Call Value → Result Value
+  step S c = stepUnder (refusal N S c) S c
+
+  -- what each call of a list leaves
+  unfoldable pub run : State Value → List (Call Value) → List (Result Value)
+  run S [] = []
+  run S (c ∷ cs) = step S c ∷ run (step S c .after) cs
+
+-- ---- the order of the refusals, computed
+
+-- dimension 3 with that diagonal; no refusal reads anything else
+diagonal : Float → Float → Float → State Float
+diagonal a b c = record { n = 3; L = λ i j. nan; U = λ i j. getD (a ∷ b ∷ c ∷ []) i nan }
+
+refuses : State Float → Call Float → Option Answer
+refuses = refusal (ieee binary64)
+
+sound : State Float
+unfolding diagonal
+sound = diagonal (whole 1) (whole 2) (whole 3)
+
+ones : List Float
+ones = whole 1 ∷ whole 1 ∷ whole 1 ∷ []
+
+pub record RefusalOrder : Type 0 where
+  push-accepted : refuses sound (push ones ones (whole 1)) ≡ none
+  push-row : refuses sound (push [] ones (whole 1)) ≡ some (refused 7)
+  push-column : refuses sound (push ones [] (whole 1)) ≡ some (refused 7)
+  row-accepted : refuses sound (replaceRow 2 ones) ≡ none
+  row-first : refuses sound (replaceRow 3 []) ≡ some (refused 5)
+  row-length : refuses sound (replaceRow 2 []) ≡ some (refused 7)
+  column-accepted : refuses sound (replaceColumn 2 ones) ≡ none
+  column-first : refuses sound (replaceColumn 3 []) ≡ some (refused 6)
+  column-length : refuses sound (replaceColumn 2 []) ≡ some (refused 7)
+  remove-accepted : refuses sound (remove 2 2) ≡ none
+  remove-row-first : refuses sound (remove 3 3) ≡ some (refused 5)
+  remove-column : refuses sound (remove 2 3) ≡ some (refused 6)
+  solve-accepted : refuses sound (solve ones) ≡ none
+  solve-length-first : refuses (diagonal (whole 0) nan nan) (solve []) ≡ some (refused 7)
+  transposed-length-first : refuses (diagonal (whole 0) nan nan) (solveTransposed []) ≡ some (refused 7)
+  -- the first bad diagonal is named, whichever it is
+  zero-first : refuses (diagonal (whole 1) (neg (whole 0)) nan) (solve ones) ≡ some (refusedAt 9 1)
+  nan-first : refuses (diagonal nan (whole 0) (whole 0)) (solve ones) ≡ some (refusedAt 10 0)
+  infinite-first : refuses (diagonal (whole 1) (whole 1) (inf false)) (solveTransposed ones) ≡ some (refusedAt 10 2)
+
+pub refusalOrder : RefusalOrder
+unfolding refuses refusal diagonals diagonal sound ones nearest neg eq ofBits
+refusalOrder = record {
+  push-accepted = refl;
+  push-row = refl;
+  push-column = refl;
+  row-accepted = refl;
+  row-first = refl;
+  row-length = refl;
+  column-accepted = refl;
+  column-first = refl;
+  column-length = refl;
+  remove-accepted = refl;
+  remove-row-first = refl;
+  remove-column = refl;
+  solve-accepted = refl;
+  solve-length-first = refl;
+  transposed-length-first = refl;
+  zero-first = refl;
+  nan-first = refl;
+  infinite-first = refl;
+}

@@ -1,0 +1,3 @@
+pub mod FromBits
+pub mod Branches
+pub mod Bound

@@ -1,0 +1,27 @@
+-- `apply_pair`: each way through its two tests is a law of Branches.
+use mathlib.Core.Path.{_≡_}
+use mathlib.Core.Logic.{⊎-elim}
+use lib.Ieee.{binary64, ne, eq}
+use borrow.Author.Tests.{not-true, not-false}
+use Rattle.numerics.specs.NumberForm.{ieee, zeroOf}
+use Rattle.numerics.specs.PairStep.{first}
+use Rattle.numerics.proofs.Branches.{exchanged, kept, added, not-added}
+use Rattle.numerics.proofs.pair.apply_pair.Statement.{statement}
+use Rattle.numerics.proofs.pair.apply_pair.Tie as tie
+
+-- where the exchange and its absence meet
+met : (c : tie.Joined1) → (c .if1 .x ≡ first (ieee binary64) (c .before .args .transform .swap) (c .before .args .x .now) (c .before .args .y .now))
+    × (c .if1 .y ≡ first (ieee binary64) (c .before .args .transform .swap) (c .before .args .y .now) (c .before .args .x .now))
+met c =
+    ⊎-elim (λ w. exchanged (ieee binary64) _ _ _ _ _ (w .0 .taken) (w .1) (w .2)) (λ w. kept (ieee binary64) _ _ _ _ _ (w .0 .left) (w .1) (w .2)) (c .if1 .came)
+
+returns : tie.Need-returns
+unfolding ne
+returns c = added (ieee binary64) _ _ _ _ _ _ (met (c .before .before .before)) (not-true _ (c .before .if2 .taken))
+
+returns-2 : tie.Need-returns-2
+unfolding ne
+returns-2 c = not-added (ieee binary64) _ _ _ _ _ _ (met (c .before .before)) (not-false _ (c .if2 .left))
+
+pub apply-pair-spec : {M : Type 1} → statement M
+apply-pair-spec = tie.close (tie.spec returns returns-2)

@@ -1,0 +1,3 @@
+pub mod NumberForm
+pub mod Tolerances
+pub mod PairStep
