@@ -1,0 +1,44 @@
+-- `u_index`: row 0 apart, the code computes the definition step by step.
+use borrow.Author.Needs.{needs}
+use native.Mathlib.Omega.{arith}
+use mathlib.Core.Path.{_≡_, refl}
+use Prim.Native.Nat.{_+_, _-_, _*_, _^_, _≤_, _<_}
+use Rattle.storage.specs.Places.{lIndex, uIndex}
+use Rattle.storage.proofs.Places.{lIndex-fits, triangle-le, uIndex-row-0}
+use Rattle.storage.proofs.u_index.Statement.{statement}
+use Rattle.storage.proofs.u_index.Tie as tie
+
+-- row × capacity + column fits, and row × (row − 1) is at most row × capacity
+fits : (c : tie.Start) → lIndex (c .args .capacity) (c .args .row) (c .args .column) < 2 ^ 64
+fits c = lIndex-fits (c .args .capacity) (c .args .row) (c .args .column) (omega arith) (omega arith) (search needs)
+
+below : (c : tie.Start) → c .args .row * (c .args .row - 1) ≤ c .args .row * c .args .capacity
+below c = triangle-le (c .args .capacity) (c .args .row) (omega arith)
+
+returns : tie.Need-returns
+returns c = rw (c .if1 .taken, uIndex-row-0)
+
+mul-result : tie.Need-mul-result
+mul-result c = omega (arith, fits (c .before))
+
+sub-result : tie.Need-sub-result
+sub-result c = search needs
+
+mul-result-2 : tie.Need-mul-result-2
+mul-result-2 c = omega (arith, fits (c .before), below (c .before))
+
+sub-result-2 : tie.Need-sub-result-2
+sub-result-2 c = omega (arith, below (c .before))
+
+add-result : tie.Need-add-result
+add-result c = omega (arith, fits (c .before))
+
+sub-result-3 : tie.Need-sub-result-3
+sub-result-3 c = search needs
+
+returns-2 : tie.Need-returns-2
+unfolding uIndex
+returns-2 c = refl
+
+pub u-index-spec : {M : Type 1} → statement M
+u-index-spec = tie.close (tie.spec returns mul-result sub-result mul-result-2 sub-result-2 add-result sub-result-3 returns-2)
