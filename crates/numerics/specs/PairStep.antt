@@ -75,8 +75,8 @@ pub record PairTable : Type 0 where
   -- with a NaN for its guard, or a negative one, two zeros give 0 / 0
   unguarded : step nan (whole 0) (whole 0) ≡ stepOf (whole 0) false nan
   below-guard : step (neg (whole 1)) (whole 0) (whole 0) ≡ stepOf (whole 0) false nan
-  -- m × first is rounded before the sum: with m and first 1 + 2^-52 and second −1, the 2^-104 of the product is lost
-  two-roundings : second (ieee binary64) false (double (2 ^ 52 + 1) (2 ^ 52)) (double (2 ^ 52 + 1) (2 ^ 52)) (neg (whole 1)) ≡ double 1 (2 ^ 51)
+  -- m × first is rounded before the sum: with m and first 1 + 2^-27 and second −(1 + 2^-26), the 2^-54 of the product is lost
+  two-roundings : second (ieee binary64) false (double (2 ^ 27 + 1) (2 ^ 27)) (double (2 ^ 27 + 1) (2 ^ 27)) (neg (double (2 ^ 26 + 1) (2 ^ 26))) ≡ whole 0
   -- a zero multiplier adds nothing, so an infinite first stays out of the second
   zero-multiplier : second (ieee binary64) true (neg (whole 0)) (whole 3) (inf false) ≡ whole 3
 

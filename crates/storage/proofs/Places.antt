@@ -13,8 +13,9 @@ use Rattle.storage.proofs.Lengths.{length-fits}
 pub lIndex-within : (c i j : ℕ) → i < c → j < c → lIndex c i j < c * c
 lIndex-within c i j hi hj = omega (arith, mul-le-mul-right {m = suc i} {n = c} c hi)
 
-pub lIndex-fits : (c i j : ℕ) → i < c → j < c → c < 2 ^ 32 → lIndex c i j < 2 ^ 64
-lIndex-fits c i j hi hj hc = omega (arith, lIndex-within c i j hi hj, length-fits c hc)
+-- a whole row of L, with what may be added to it
+pub row-fits : (c i : ℕ) → i < c → c < 2 ^ 32 → i * c + c < 2 ^ 64
+row-fits c i hi hc = omega (arith, mul-le-mul-right {m = suc i} {n = c} c hi, length-fits c hc)
 
 pub workIndex-within : (c i : ℕ) → i < c → workIndex c i < lLength c
 workIndex-within c i hi = omega arith

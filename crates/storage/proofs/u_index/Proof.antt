@@ -3,14 +3,14 @@ use borrow.Author.Needs.{needs}
 use native.Mathlib.Omega.{arith}
 use mathlib.Core.Path.{_≡_, refl}
 use Prim.Native.Nat.{_+_, _-_, _*_, _^_, _≤_, _<_}
-use Rattle.storage.specs.Places.{lIndex, uIndex}
-use Rattle.storage.proofs.Places.{lIndex-fits, triangle-le, uIndex-row-0}
+use Rattle.storage.specs.Places.{uIndex}
+use Rattle.storage.proofs.Places.{row-fits, triangle-le, uIndex-row-0}
 use Rattle.storage.proofs.u_index.Statement.{statement}
 use Rattle.storage.proofs.u_index.Tie as tie
 
--- row × capacity + column fits, and row × (row − 1) is at most row × capacity
-fits : (c : tie.Start) → lIndex (c .args .capacity) (c .args .row) (c .args .column) < 2 ^ 64
-fits c = lIndex-fits (c .args .capacity) (c .args .row) (c .args .column) (omega arith) (omega arith) (search needs)
+-- a whole row of L fits, and row × (row − 1) is at most row × capacity
+fits : (c : tie.Start) → c .args .row * c .args .capacity + c .args .capacity < 2 ^ 64
+fits c = row-fits (c .args .capacity) (c .args .row) (omega arith) (search needs)
 
 below : (c : tie.Start) → c .args .row * (c .args .row - 1) ≤ c .args .row * c .args .capacity
 below c = triangle-le (c .args .capacity) (c .args .row) (omega arith)

@@ -1,0 +1,50 @@
+-- `test_storage`: each way through its tests is a law of Refusals, given what `storage_lengths` answered.
+use borrow.Author.Needs.{needs}
+use native.Mathlib.Omega.{arith}
+use Rattle.storage.proofs.Lengths.{refused-overflows, given-lengths}
+use Rattle.api.proofs.Refusals.{invalid-dimension, size-overflow, short-L, short-U, storage-passes}
+use Rattle.api.proofs.test_storage.Statement.{statement}
+use Rattle.api.proofs.test_storage.Tie as tie
+
+returns : tie.Need-returns
+returns c = invalid-dimension _ _ _ _ (c .if1 .taken)
+
+storage-lengths-requires : tie.Need-storage-lengths-requires
+storage-lengths-requires c κs = search needs
+
+enum-known-required : tie.Need-enum-known-required
+enum-known-required c = search needs
+
+enum-told : tie.Need-enum-told
+enum-told c = search needs
+
+returns-2 : tie.Need-returns-2
+returns-2 c =
+    let called = c .before .before in
+    size-overflow _ _ _ _ (called .before .if1 .left) (refused-overflows _ (called .storage-lengths .ensures) (c .enum-told .given .1))
+
+returns-3 : tie.Need-returns-3
+returns-3 c =
+    let required = c .before .before .before in
+    let called = required .before .before in
+    let g = given-lengths _ _ (called .storage-lengths .ensures) (required .required .given .1) in
+    short-L _ _ _ _ (called .before .if1 .left) (g .0) (omega (arith, g .1, c .if2 .taken))
+
+returns-4 : tie.Need-returns-4
+returns-4 c =
+    let required = c .before .before .before .before .before in
+    let called = required .before .before in
+    let g = given-lengths _ _ (called .storage-lengths .ensures) (required .required .given .1) in
+    short-U _ _ _ _ (called .before .if1 .left) (g .0) (omega (arith, g .2, c .if3 .taken))
+
+returns-5 : tie.Need-returns-5
+returns-5 c =
+    let required = c .before .before .before .before .before in
+    let called = required .before .before in
+    let g = given-lengths _ _ (called .storage-lengths .ensures) (required .required .given .1) in
+    storage-passes _ _ _ _ (called .before .if1 .left) (g .0) (omega (arith, g .1, c .before .before .if2 .left)) (omega (arith, g .2, c .if3 .left))
+
+pub test-storage-spec : {M : Type 1} → statement M
+test-storage-spec =
+    tie.close
+    (tie.spec returns storage-lengths-requires enum-known-required enum-told returns-2 returns-3 returns-4 returns-5)

@@ -1,0 +1,22 @@
+-- An instance is a state with the storage and workspaces lent to its calls; its view is what the plain machine has of it.
+use mathlib.Core.List.{List}
+use Prim.Native.Nat.{ℕ}
+use Rattle.numerics.specs.NumberForm.{NumberForm}
+use Rattle.machine.specs.Tables.{State}
+use Rattle.storage.specs.Views.{viewL, viewU}
+
+-- n is the dimension and c the capacity; a solve is lent no workspaces, and its y, z and w are []
+pub record Instance (A : Type 0) : Type 0 where
+  pub n : ℕ
+  pub c : ℕ
+  pub l : List A
+  pub u : List A
+  pub y : List A
+  pub z : List A
+  pub w : List A
+
+module _ (N : NumberForm) where
+  open NumberForm N using (Value)
+
+  abbrev pub view : Instance Value → State Value
+  view s = record { n = s .n; L = viewL N (s .c) (s .l); U = viewU N (s .c) (s .u) }

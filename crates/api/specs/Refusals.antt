@@ -1,0 +1,157 @@
+-- The refusals of the managed calls, 1 to 10, in document 01's order. Below stand computed lines for that order, one for each two conditions that follow
+-- one another and can hold at once.
+use mathlib.Core.Path.{_≡_, refl}
+use mathlib.Core.Bool.{Bool, true, false, not, _&&_, _||_, cond}
+use mathlib.Core.List.{List, [], _∷_}
+use mathlib.Core.Option.{Option, none, some}
+use Prim.Native.Nat.{ℕ, zero, suc, _+_, _^_}
+use lib.Dec.{ltb, eqb}
+use lib.ListN.{length, getD, replicate}
+use lib.Ieee.{Float, nan, binary64, eq, ofBits}
+use Rattle.numerics.specs.NumberForm.{NumberForm, nearest, ieee, whole}
+use Rattle.machine.specs.Calls.{Call, push, replaceRow, replaceColumn, remove, solve, solveTransposed, Answer, refused, refusedAt, _orElse_, refuseIf, isPush, isUpdate}
+use Rattle.machine.specs.Solves.{diagonals}
+use Rattle.machine.specs.Machine.{refusal}
+use Rattle.storage.specs.Places.{lLength, uLength, overflows, uIndex}
+use Rattle.api.specs.Instance.{Instance, view}
+
+-- 1: n > c. 2: c + 1 or c × (c + 1) exceeds usize. 3: L or U too short. For a dimension, a capacity and the lengths of L and U
+unfoldable pub storageTests : ℕ → ℕ → ℕ → ℕ → Option Answer
+storageTests n c l u = refuseIf (ltb c n) 1 orElse refuseIf (overflows c) 2 orElse refuseIf (ltb l (lLength c) || ltb u (uLength c)) 3
+
+-- 3: workspaces of unequal length
+unfoldable pub workspaceTests : ℕ → ℕ → ℕ → Option Answer
+workspaceTests y z w = refuseIf (not (eqb y z && eqb y w)) 3
+
+module _ {A : Type 0} where
+  -- Every managed call lends its storage and tests 1, 2, 3 (storage), then, where it lends workspaces (all updates, no solve), 3 for them.
+  unfoldable pub lentTests : Instance A → Call A → Option Answer
+  lentTests s c =
+      storageTests (s .n) (s .c) (length (s .l)) (length (s .u))
+      orElse cond (isUpdate c) (workspaceTests (length (s .y)) (length (s .z)) (length (s .w))) none
+
+  -- the dimension for which an update needs workspace: n, and n + 1 for a push
+  abbrev pub reached : Instance A → Call A → ℕ
+  reached s c = s .n + cond (isPush c) 1 0
+
+module _ (N : NumberForm) where
+  open NumberForm N using (Value)
+
+  -- Then 4 for a push at n = c; then the plain machine's own, which are 7 for a push, 5, 7 for replace row, 6, 7 for replace column, 5, 6 for remove, and
+  -- 7, 9, 10 for the solves; then 8 for an update whose workspace is shorter than n (push: n + 1).
+  unfoldable pub refusalAt : Instance Value → Call Value → Option Answer
+  refusalAt s c =
+      lentTests s c
+      orElse refuseIf (isPush c && eqb (s .n) (s .c)) 4
+      orElse refusal N (view N s) c
+      orElse refuseIf (isUpdate c && ltb (length (s .y)) (reached s c)) 8
+
+-- ---- the order, computed
+
+-- an instance by its dimension, its capacity and the lengths of L, U, y, z and w, every double being d
+lent : Float → ℕ → ℕ → ℕ → ℕ → ℕ → ℕ → ℕ → Instance Float
+lent d n c l u y z w = record {
+  n = n;
+  c = c;
+  l = replicate l d;
+  u = replicate u d;
+  y = replicate y d;
+  z = replicate z d;
+  w = replicate w d;
+}
+
+-- dimension 1 at capacity 2 with all lengths right, workspaces of length 2
+sound : Instance Float
+unfolding lent
+sound = lent (whole 1) 1 2 6 3 2 2 2
+
+-- the same with workspaces that serve dimension 1 alone, and none
+narrow : Instance Float
+unfolding lent
+narrow = lent (whole 1) 1 2 6 3 1 1 1
+
+bare : Instance Float
+unfolding lent
+bare = lent (whole 1) 1 2 6 3 0 0 0
+
+-- the same at capacity 1, all taken
+full : Instance Float
+unfolding lent
+full = lent (whole 1) 1 1 2 1 2 2 2
+
+refuses : Instance Float → Call Float → Option Answer
+refuses = refusalAt (ieee binary64)
+
+one : List Float
+one = whole 1 ∷ []
+
+pub record RefusalOrder : Type 0 where
+  -- 1, 2, 3 and 3 for the workspaces
+  one-before-two : refuses (lent nan (2 ^ 32 + 1) (2 ^ 32) 0 0 0 0 0) (solve []) ≡ some (refused 1)
+  two-before-three : refuses (lent nan 0 (2 ^ 32) 0 0 0 0 0) (solve []) ≡ some (refused 2)
+  short-L : refuses (lent (whole 1) 1 2 5 3 2 2 2) (push one one (whole 1)) ≡ some (refused 3)
+  short-U : refuses (lent (whole 1) 1 2 6 2 2 2 2) (push one one (whole 1)) ≡ some (refused 3)
+  unequal-z : refuses (lent (whole 1) 1 2 6 3 2 1 2) (push one one (whole 1)) ≡ some (refused 3)
+  unequal-w : refuses (lent (whole 1) 1 2 6 3 2 2 3) (push one one (whole 1)) ≡ some (refused 3)
+  -- push: 4, 7, 8
+  three-before-four : refuses (lent (whole 1) 1 1 2 1 2 1 2) (push one one (whole 1)) ≡ some (refused 3)
+  four-before-seven : refuses full (push [] one (whole 1)) ≡ some (refused 4)
+  push-seven-before-eight : refuses narrow (push one [] (whole 1)) ≡ some (refused 7)
+  push-eight : refuses narrow (push one one (whole 1)) ≡ some (refused 8)
+  push-accepted : refuses sound (push one one (whole 1)) ≡ none
+  -- replace row: 5, 7, 8
+  row-three-before-five : refuses (lent (whole 1) 1 2 6 3 2 1 2) (replaceRow 1 []) ≡ some (refused 3)
+  row-five-before-seven : refuses bare (replaceRow 1 []) ≡ some (refused 5)
+  row-seven-before-eight : refuses bare (replaceRow 0 []) ≡ some (refused 7)
+  row-eight : refuses bare (replaceRow 0 one) ≡ some (refused 8)
+  row-accepted : refuses narrow (replaceRow 0 one) ≡ none
+  -- replace column: 6, 7, 8
+  column-six-before-seven : refuses bare (replaceColumn 1 []) ≡ some (refused 6)
+  column-seven-before-eight : refuses bare (replaceColumn 0 []) ≡ some (refused 7)
+  column-eight : refuses bare (replaceColumn 0 one) ≡ some (refused 8)
+  column-accepted : refuses narrow (replaceColumn 0 one) ≡ none
+  -- remove: 5, 6, 8
+  remove-five-before-six : refuses bare (remove 1 1) ≡ some (refused 5)
+  remove-six-before-eight : refuses bare (remove 0 1) ≡ some (refused 6)
+  remove-eight : refuses bare (remove 0 0) ≡ some (refused 8)
+  remove-accepted : refuses narrow (remove 0 0) ≡ none
+  -- solves: 7, then the diagonal; they lend no workspaces
+  solve-three-before-seven : refuses (lent (whole 1) 1 2 5 3 0 0 0) (solve []) ≡ some (refused 3)
+  solve-seven-before-nine : refuses (lent (whole 0) 1 2 6 3 0 0 0) (solve []) ≡ some (refused 7)
+  solve-nine : refuses (lent (whole 0) 1 2 6 3 0 0 0) (solve one) ≡ some (refusedAt 9 0)
+  transposed-ten : refuses (lent nan 1 2 6 3 0 0 0) (solveTransposed one) ≡ some (refusedAt 10 0)
+  solve-accepted : refuses (lent (whole 1) 1 2 6 3 0 1 2) (solve one) ≡ none
+
+pub refusalOrder : RefusalOrder
+unfolding refuses refusalAt lentTests storageTests workspaceTests refusal diagonals overflows uIndex lent sound narrow bare full one nearest eq ofBits
+refusalOrder = record {
+  one-before-two = refl;
+  two-before-three = refl;
+  short-L = refl;
+  short-U = refl;
+  unequal-z = refl;
+  unequal-w = refl;
+  three-before-four = refl;
+  four-before-seven = refl;
+  push-seven-before-eight = refl;
+  push-eight = refl;
+  push-accepted = refl;
+  row-three-before-five = refl;
+  row-five-before-seven = refl;
+  row-seven-before-eight = refl;
+  row-eight = refl;
+  row-accepted = refl;
+  column-six-before-seven = refl;
+  column-seven-before-eight = refl;
+  column-eight = refl;
+  column-accepted = refl;
+  remove-five-before-six = refl;
+  remove-six-before-eight = refl;
+  remove-eight = refl;
+  remove-accepted = refl;
+  solve-three-before-seven = refl;
+  solve-seven-before-nine = refl;
+  solve-nine = refl;
+  transposed-ten = refl;
+  solve-accepted = refl;
+}
