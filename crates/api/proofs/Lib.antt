@@ -1,3 +1,5 @@
 pub mod Refusals
+pub mod Refused
+pub mod Accepted
 pub mod ListClaim
 pub mod Managed

@@ -34,18 +34,22 @@ module _ (N : NumberForm) (E T : N .Value) where
   open NumberForm N using (Value)
 
   -- the dimension grows by pushes alone
+  pub accepted-grows : (S : State Value) (c : Call Value) → accepted N E T S c .after .n ≤ S .n + cond (isPush c) 1 0
+  unfolding accepted
+  accepted-grows S (push row column d) = omega arith
+  accepted-grows S (replaceRow r row) = omega arith
+  accepted-grows S (replaceColumn k column) = omega arith
+  accepted-grows S (remove r k) = omega arith
+  accepted-grows S (solve b) = omega arith
+  accepted-grows S (solveTransposed b) = omega arith
+
   step-grows : (S : State Value) (c : Call Value) → step N E T S c .after .n ≤ S .n + cond (isPush c) 1 0
-  unfolding step stepUnder accepted
-  step-grows S c = go (refusal N S c) c
+  unfolding step stepUnder
+  step-grows S c = go (refusal N S c)
     where
-      go : (o : Option Answer) (c : Call Value) → stepUnder N E T o S c .after .n ≤ S .n + cond (isPush c) 1 0
-      go none (push row column d) = omega arith
-      go none (replaceRow r row) = omega arith
-      go none (replaceColumn k column) = omega arith
-      go none (remove r k) = omega arith
-      go none (solve b) = omega arith
-      go none (solveTransposed b) = omega arith
-      go (some a) c = omega arith
+      go : (o : Option Answer) → stepUnder N E T o S c .after .n ≤ S .n + cond (isPush c) 1 0
+      go none = accepted-grows S c
+      go (some a) = omega arith
 
   -- one call: whatever else stands in memory, it gives what the machine gives
   event-same : (capacity room : ℕ) (S R : State Value) (c : Call Value) (e : Event Value) → Agree S R → S .n + cond (isPush c) 1 0 ≤ room → room ≤ capacity

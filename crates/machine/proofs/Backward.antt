@@ -8,25 +8,25 @@ use lib.Ieee.Fits.{and-i, and-l, and-r}
 use Rattle.numerics.specs.NumberForm.{NumberForm}
 use Rattle.numerics.specs.PairStep.{Step, pairStep, first, second}
 use Rattle.machine.specs.Tables.{Vector, Work}
-use Rattle.machine.specs.Backward.{copyRowToDense, trim, clearDense, backwardSkips, backwardTransform, backwardRow, backwardRows, backward}
+use Rattle.machine.specs.Backward.{copyRowToDense, negligible, trim, clearDense, backwardSkips, backwardTransform, backwardRow, backwardRows, backward}
 use Rattle.machine.specs.Agreement.{AgreeWithin}
 use Rattle.machine.proofs.Choice.{neqb→ne, choose, in-range, within-cond, within-from}
 use Rattle.machine.proofs.Forward.{transform-rows-same}
 
 module _ (N : NumberForm) (E : N .Value) where
-  open NumberForm N using (Value, abs, le)
+  open NumberForm N using (Value)
 
   pub trim-same : (start s : ℕ) (v u : Vector Value) → ((j : ℕ) → j ≤ s → v j ≡ u j) → trim N E start s v ≡ trim N E start s u
   unfolding trim
   trim-same start zero v u h = refl
   trim-same start (suc s) v u h =
-      λ t. cond (ltb start (suc s) && le (abs (h (suc s) (omega arith) t)) E) (trim-same start s v u (λ j l. h j (omega arith)) t) (suc s)
+      λ t. cond (ltb start (suc s) && negligible N E (h (suc s) (omega arith) t)) (trim-same start s v u (λ j l. h j (omega arith)) t) (suc s)
 
   -- start ≤ trim ≤ s
   pub trim-le : (start s : ℕ) (v : Vector Value) → trim N E start s v ≤ s
   unfolding trim
   trim-le start zero v = omega arith
-  trim-le start (suc s) v = go (ltb start (suc s) && le (abs (v (suc s))) E) (trim-le start s v)
+  trim-le start (suc s) v = go (ltb start (suc s) && negligible N E (v (suc s))) (trim-le start s v)
     where
       go : (b : Bool) → trim N E start s v ≤ s → cond b (trim N E start s v) (suc s) ≤ suc s
       go true h = omega arith
@@ -35,10 +35,10 @@ module _ (N : NumberForm) (E : N .Value) where
   pub trim-ge : (start s : ℕ) (v : Vector Value) → start ≤ s → start ≤ trim N E start s v
   unfolding trim
   trim-ge start zero v l = l
-  trim-ge start (suc s) v l = go (ltb start (suc s) && le (abs (v (suc s))) E) (λ t. trim-ge start s v (falls t))
+  trim-ge start (suc s) v l = go (ltb start (suc s) && negligible N E (v (suc s))) (λ t. trim-ge start s v (falls t))
     where
-      falls : So (ltb start (suc s) && le (abs (v (suc s))) E) → start ≤ s
-      falls t = omega (arith, ltb→lt start (suc s) (and-l (ltb start (suc s)) (le (abs (v (suc s))) E) t))
+      falls : So (ltb start (suc s) && negligible N E (v (suc s))) → start ≤ s
+      falls t = omega (arith, ltb→lt start (suc s) (and-l (ltb start (suc s)) (negligible N E (v (suc s))) t))
 
       go : (b : Bool) → (So b → start ≤ trim N E start s v) → start ≤ cond b (trim N E start s v) (suc s)
       go true h = h tt
@@ -73,7 +73,7 @@ module _ (N : NumberForm) (E T : N .Value) (m columns : ℕ) (hc : columns ≤ m
       → AgreeWithin m row columns m (backwardTransform N selected columns row p S) (backwardTransform N selected columns row q R)
   unfolding backwardTransform
   backward-transform-same selected row {p} {q} {S} {R} e hs hr h = record {
-    L = transform-rows-same N m selected row (S .L) (R .L) e hs hr (h .L);
+    L = transform-rows-same N m _ _ (S .L) (R .L) e (omega arith) (omega arith) (h .L);
     U = λ i j hij hj. choose (eqb i row && (leb row j && ltb j columns))
         (λ s. let f = in-range row columns j (and-r (eqb i row) (leb row j && ltb j columns) s) in λ t. second N (e t .swap) (e t .multiplier) (h .y j (f .0) (f .1) t) (h .U i j hij hj t))
         (λ _. h .U i j hij hj);

@@ -30,7 +30,7 @@ module _ (N : NumberForm) (E T : N .Value) (m columns k : ℕ) (hc : columns ≤
       → AgreeWithin m lo columns k (forwardTransform N last columns row p S) (forwardTransform N last columns row q R)
   unfolding forwardTransform
   forward-transform-same last row lo {p} {q} {S} {R} e hl ho hr h = record {
-    L = transform-rows-same N m row last (S .L) (R .L) e (omega arith) hl (h .L);
+    L = transform-rows-same N m _ _ (S .L) (R .L) e (omega arith) (omega arith) (h .L);
     U = λ i j hij hj. choose (eqb i row)
         (λ _. choose (eqb j row) (λ _ t. e t .x) (λ _. choose (ltb row j && ltb j columns)
         (λ s. let f = in-range-after row columns j s in λ t. first N (e t .swap) (h .U i j hij hj t) (h .y j (omega arith) (f .1) t))
@@ -55,7 +55,7 @@ module _ (N : NumberForm) (E T : N .Value) (m columns k : ℕ) (hc : columns ≤
   unfolding forwardRows
   forward-rows-same start last zero hl hk hr h = h
   forward-rows-same start last (suc d) hl hk hr h =
-      forward-row-same last (start + d) start hl (omega arith) (omega arith) (forward-rows-same start last d hl hk (omega arith) h)
+      forward-row-same last _ start hl (omega arith) (omega arith) (forward-rows-same start last d hl hk (omega arith) h)
 
   copy-dense-same : (last lo : ℕ) {S R : Work Value} → lo ≤ last → AgreeWithin m lo columns k S R
       → AgreeWithin m lo columns k (copyDenseToRow last columns S) (copyDenseToRow last columns R)
@@ -72,4 +72,4 @@ module _ (N : NumberForm) (E T : N .Value) (m columns k : ℕ) (hc : columns ≤
   pub forward-same : (start last : ℕ) {S R : Work Value} → last < m → start ≤ last → last ≤ columns → AgreeWithin m start columns k S R
       → AgreeWithin m start columns k (forward N E T start last columns S) (forward N E T start last columns R)
   unfolding forward
-  forward-same start last hl ho hk h = copy-dense-same last start ho (forward-rows-same start last (last - start) hl hk (omega arith) h)
+  forward-same start last hl ho hk h = copy-dense-same _ start (omega arith) (forward-rows-same start last _ hl hk (omega arith) h)

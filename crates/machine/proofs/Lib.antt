@@ -1,4 +1,5 @@
--- Independence: nothing in the machine reads what is not active. One file for each file of definitions, and Step for the theorem.
+-- Independence: nothing in the machine reads what is not active. One file for each file of definitions, and Step for the theorem. Diagonals says which
+-- diagonal a solve names.
 pub mod Choice
 pub mod Products
 pub mod Forward
@@ -6,4 +7,5 @@ pub mod Backward
 pub mod Updates
 pub mod Solves
 pub mod Refusals
+pub mod Diagonals
 pub mod Step

@@ -8,13 +8,13 @@ use lib.Dec.{eqb}
 use Rattle.numerics.specs.NumberForm.{NumberForm}
 use Rattle.machine.specs.Tables.{Vector, Table, State}
 use Rattle.machine.specs.Products.{entry, product}
-use Rattle.machine.specs.Solves.{backSubstitution, forwardSubstitution, solution, solutionTransposed, badDiagonal, diagonals}
+use Rattle.machine.specs.Solves.{substituted, backSubstitution, forwardSubstitution, solution, solutionTransposed, badDiagonal, diagonals}
 use Rattle.machine.specs.Calls.{_orElse_}
 use Rattle.machine.proofs.Choice.{tabulate-same}
 use Rattle.machine.proofs.Products.{sum-same, product-same, product-transposed-same}
 
 module _ (N : NumberForm) where
-  open NumberForm N using (Value, sub, mul, div)
+  open NumberForm N using (Value, mul)
 
   module _ (n : ℕ) (U U′ : Table Value) (hU : (i j : ℕ) → i ≤ j → j < n → U i j ≡ U′ i j) where
     pub diagonals-same : (k : ℕ) → k ≤ n → diagonals N U k ≡ diagonals N U′ k
@@ -31,7 +31,7 @@ module _ (N : NumberForm) where
           let ih : (i : ℕ) → i < n → backSubstitution N n U b k i ≡ backSubstitution N n U′ c k i = back-substitution-same k (omega arith) in
           let s = sum-same N k (λ i. mul (U row (suc row + i)) (backSubstitution N n U b k (suc row + i))) (λ i. mul (U′ row (suc row + i)) (backSubstitution N n U′ c k (suc row + i)))
           (λ i hi t. mul (hU row (suc row + i) (omega arith) (omega arith) t) (ih (suc row + i) (omega arith) t)) in
-          λ t. cond (eqb j row) (div (sub (ih row (omega arith) t) (s t)) (hU row row (omega arith) (omega arith) t)) (ih j hj t)
+          λ t. cond (eqb j row) (substituted N (ih row (omega arith) t) (s t) (hU row row (omega arith) (omega arith) t)) (ih j hj t)
 
       forward-substitution-same : (k : ℕ) → k ≤ n → (j : ℕ) → j < n → forwardSubstitution N U b k j ≡ forwardSubstitution N U′ c k j
       unfolding forwardSubstitution
@@ -40,18 +40,17 @@ module _ (N : NumberForm) where
           let ih : (i : ℕ) → i < n → forwardSubstitution N U b k i ≡ forwardSubstitution N U′ c k i = forward-substitution-same k (omega arith) in
           let s = sum-same N k (λ i. mul (U i k) (forwardSubstitution N U b k i)) (λ i. mul (U′ i k) (forwardSubstitution N U′ c k i))
           (λ i hi t. mul (hU i k (omega arith) (omega arith) t) (ih i (omega arith) t)) in
-          λ t. cond (eqb j k) (div (sub (ih k (omega arith) t) (s t)) (hU k k (omega arith) (omega arith) t)) (ih j hj t)
+          λ t. cond (eqb j k) (substituted N (ih k (omega arith) t) (s t) (hU k k (omega arith) (omega arith) t)) (ih j hj t)
 
     module _ (L L′ : Table Value) (hL : (i j : ℕ) → i < n → j < n → L i j ≡ L′ i j) (b : List Value) where
       pub solution-same : solution N (record { n = n; L = L; U = U }) b ≡ solution N (record { n = n; L = L′; U = U′ }) b
       unfolding solution
       solution-same =
           tabulate-same n _ _
-          (back-substitution-same (product N n L (entry N b)) (product N n L′ (entry N b)) (product-same N n L L′ (entry N b) (entry N b) hL (λ _ _. refl)) n (omega arith))
+          (back-substitution-same _ _ (product-same N n L L′ _ _ hL (λ _ _. refl)) n (omega arith))
 
       pub solution-transposed-same : solutionTransposed N (record { n = n; L = L; U = U }) b ≡ solutionTransposed N (record { n = n; L = L′; U = U′ }) b
       unfolding solutionTransposed
       solution-transposed-same =
           tabulate-same n _ _
-          (product-transposed-same N n L L′ (forwardSubstitution N U (entry N b) n) (forwardSubstitution N U′ (entry N b) n) hL
-          (forward-substitution-same (entry N b) (entry N b) (λ _ _. refl) n (omega arith)))
+          (product-transposed-same N n L L′ _ _ hL (forward-substitution-same _ _ (λ _ _. refl) n (omega arith)))

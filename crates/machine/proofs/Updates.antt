@@ -27,7 +27,7 @@ module _ (N : NumberForm) (E T : N .Value) where
     unfolding putColumn
     put-column-same h = record {
       L = h .L;
-      U = λ i j hij hj t. cond (eqb j k && leb i k) (h .v i (omega arith) t) (h .U i j hij hj t);
+      U = λ i j hij hj. choose (eqb j k && leb i k) (λ _. h .v i (omega arith)) (λ _. h .U i j hij hj);
       y = h .y;
       v = h .v;
     }
@@ -68,7 +68,7 @@ module _ (N : NumberForm) (E T : N .Value) where
     bordered-same row column d = record {
       L = λ i j hi hj. choose (eqb i n) (λ _. refl) (λ a. choose (eqb j n) (λ _. refl) (λ b. hL i j (omega (arith, neqb→ne i n a)) (omega (arith, neqb→ne j n b))));
       U = λ i j hij hj. choose (eqb j n)
-          (λ _. choose (eqb i n) (λ _. refl) (λ a. product-same N n L L′ (entry N column) (entry N column) hL (λ _ _. refl) i (omega (arith, neqb→ne i n a))))
+          (λ _. choose (eqb i n) (λ _. refl) (λ a. product-same N n L L′ _ _ hL (λ _ _. refl) i (omega (arith, neqb→ne i n a))))
           (λ b. hU i j hij (omega (arith, neqb→ne j n b)));
       y = λ j _ _. refl;
       v = λ j _. refl;
@@ -87,7 +87,7 @@ module _ (N : NumberForm) (E T : N .Value) where
           L = hL;
           U = hU;
           y = λ j a b. absurd (omega arith);
-          v = product-same N n L L′ (entry N column) (entry N column) hL (λ _ _. refl);
+          v = product-same N n L L′ _ _ hL (λ _ _. refl);
         }) in
         within-choose (ltb (suc k) n)
         (λ s. let l = ltb→lt (suc k) n s in within-from (omega arith) (restored-same n n k (omega arith) hk (n - 1) n (omega arith) (omega arith) (omega arith) h))
@@ -109,7 +109,7 @@ module _ (N : NumberForm) (E T : N .Value) where
         let p = n - 1 in
         let d = column-dropped-same k hk in
         backward-same N E T n p (omega arith) 0 p 0 (omega arith) (omega arith) (record {
-          L = λ i j hi hj t. cond (eqb j r) (d .L i p hi (omega arith) t) (d .L i j hi hj t);
+          L = λ i j hi hj. choose (eqb j r) (λ _. d .L i _ hi (omega arith)) (λ _. d .L i j hi hj);
           U = d .U;
           y = λ j _ _. refl;
           v = λ j hj. d .L j r hj hr;
@@ -118,7 +118,7 @@ module _ (N : NumberForm) (E T : N .Value) where
     unit-row-same : (s r : ℕ) (row : List Value) (lo : ℕ) {S R : Work Value} → AgreeWithin n lo n n S R → AgreeWithin n 0 n n (unitRow N s r row S) (unitRow N s r row R)
     unfolding unitRow
     unit-row-same s r row lo h = record {
-      L = λ i j hi hj t. cond (eqb i s) (cond (eqb j r) 𝟏 𝟎) (h .L i j hi hj t);
+      L = λ i j hi hj. choose (eqb i s) (λ _. refl) (λ _. h .L i j hi hj);
       U = h .U;
       y = λ j _ _. refl;
       v = h .v;
@@ -131,7 +131,7 @@ module _ (N : NumberForm) (E T : N .Value) where
         forward-same N E T n n n (omega arith) 0 selected hs (omega arith) (omega arith)
         (unit-row-same selected r row 0
         (backward-same N E T n n (omega arith) 0 selected 0 hs (omega arith) (record {
-          L = λ i j hi hj t. cond (eqb j r) 𝟎 (hL i j hi hj t);
+          L = λ i j hi hj. choose (eqb j r) (λ _. refl) (λ _. hL i j hi hj);
           U = hU;
           y = λ j _ _. refl;
           v = λ j hj. hL j r hj hr;

@@ -20,10 +20,14 @@ module _ {A : Type 0} where
 module _ (N : NumberForm) where
   open NumberForm N using (Value, zero as 𝟎, mul, abs, le)
 
+  -- |v(selected)| ≤ E
+  unfoldable pub negligible : Value → Value → Bool
+  negligible E value = le (abs value) E
+
   -- while selected > first and |v(selected)| ≤ E, selected falls by one
   unfoldable pub trim : Value → ℕ → ℕ → Vector Value → ℕ
   trim E start zero v = zero
-  trim E start (suc s) v = cond (ltb start (suc s) && le (abs (v (suc s))) E) (trim E start s v) (suc s)
+  trim E start (suc s) v = cond (ltb start (suc s) && negligible E (v (suc s))) (trim E start s v) (suc s)
 
   -- dense(row) becomes +0
   unfoldable pub clearDense : ℕ → Work Value → Work Value

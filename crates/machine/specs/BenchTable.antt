@@ -1,10 +1,11 @@
 -- Document 01's bench table for the machine, and computed lines for the traps that its rows don't show. One finite check of the definitions.
 use mathlib.Core.Path.{_≡_, refl}
-use mathlib.Core.Bool.{cond}
+use mathlib.Core.Bool.{true, false, cond}
 use mathlib.Core.List.{List, [], _∷_}
 use mathlib.Core.Option.{none, some}
 use Prim.Native.Nat.{ℕ, zero, suc, _+_, _-_, _^_}
 use lib.Dec.{eqb}
+use lib.ListN.{getD}
 use lib.Ieee.{Float, nan, binary64, add, sub, mul, div, le, lt, eq, neg, ofBits}
 use Rattle.numerics.specs.NumberForm.{ieee, nearest, absolute, double, whole}
 use Rattle.numerics.specs.Tolerances.{managedEpsilon, zeroBasedEpsilon, updateTiny, managedTiny, zeroBasedTiny}
@@ -12,15 +13,15 @@ use Rattle.numerics.specs.PairStep.{pairStep, first, second}
 use Rattle.machine.specs.Tables.{State, tabulate}
 use Rattle.machine.specs.Products.{sum, product, productTransposed}
 use Rattle.machine.specs.Forward.{copyDenseToRow, transformRows, forwardActs, forwardTransform, forwardRow, forwardRows, forward}
-use Rattle.machine.specs.Backward.{copyRowToDense, trim, clearDense, backwardSkips, backwardTransform, backwardRow, backwardRows, backward}
+use Rattle.machine.specs.Backward.{copyRowToDense, negligible, trim, clearDense, backwardSkips, backwardTransform, backwardRow, backwardRows, backward}
 use Rattle.machine.specs.Updates.{putColumn, putSelected, columnCopied, bordered, columnCleared, unitRow, restoredFrom, restored, pushed, columnReplaced, rowReplacedFrom, rowReplaced, columnDropped, removed}
-use Rattle.machine.specs.Solves.{backSubstitution, forwardSubstitution, solution, solutionTransposed, diagonals}
+use Rattle.machine.specs.Solves.{substituted, backSubstitution, forwardSubstitution, solution, solutionTransposed, diagonals}
 use Rattle.machine.specs.Calls.{Call, push, replaceRow, replaceColumn, remove, solve, solveTransposed, done, moved, refusedAt, Result}
 use Rattle.machine.specs.Machine.{refusal, accepted, stepUnder, step}
 
 -- a call under the managed tolerances. Who unfolds `call` unfolds the whole machine
 call : State Float → Call Float → Result Float
-unfolding step stepUnder accepted refusal diagonals pushed bordered columnReplaced putColumn restored restoredFrom putSelected rowReplaced rowReplacedFrom columnCleared unitRow columnDropped columnCopied removed forward copyDenseToRow forwardRows forwardRow forwardActs forwardTransform backward copyRowToDense trim backwardRows backwardRow clearDense backwardSkips backwardTransform transformRows pairStep first second product productTransposed sum backSubstitution forwardSubstitution solution solutionTransposed nearest absolute managedEpsilon updateTiny add sub mul div le lt eq neg ofBits
+unfolding step stepUnder accepted refusal diagonals pushed bordered columnReplaced putColumn restored restoredFrom putSelected rowReplaced rowReplacedFrom columnCleared unitRow columnDropped columnCopied removed forward copyDenseToRow forwardRows forwardRow forwardActs forwardTransform backward copyRowToDense negligible trim backwardRows backwardRow clearDense backwardSkips backwardTransform transformRows pairStep first second product productTransposed sum substituted backSubstitution forwardSubstitution solution solutionTransposed nearest absolute managedEpsilon updateTiny add sub mul div le lt eq neg ofBits
 call = step (ieee binary64) (managedEpsilon binary64) (managedTiny binary64)
 
 -- a call under the zero-based tolerances
@@ -52,6 +53,24 @@ P : State Float
 unfolding call single
 P = call (single (whole 2)) (push (whole 4 ∷ []) (whole 6 ∷ []) (whole 1)) .after
 
+-- dimension 2 with an L that is not symmetric, as P's is: rows (2,6) and (1,1)
+Q : State Float
+unfolding call single
+Q = call (single (whole 2)) (push (whole 1 ∷ []) (whole 6 ∷ []) (whole 1)) .after
+
+-- dimension 3 with those rows; a NaN stands below U's diagonal
+square : List (List Float) → List (List Float) → State Float
+square L U = record { n = 3; L = λ i j. getD (getD L i []) j nan; U = λ i j. getD (getD U i []) j nan }
+
+M : State Float
+unfolding square
+M = square ((whole 0 ∷ whole 2 ∷ whole 0 ∷ []) ∷ (whole 0 ∷ neg (whole 1) ∷ neg (whole 1) ∷ []) ∷ (whole 3 ∷ neg (whole 2) ∷ whole 2 ∷ []) ∷ []) ((whole 2 ∷ neg (whole 2) ∷ whole 1 ∷ []) ∷ (nan ∷ whole 2 ∷ whole 2 ∷ []) ∷ (nan ∷ nan ∷ whole 0 ∷ []) ∷ [])
+
+-- L's column 1 ends in a zero, which Backward trims
+M′ : State Float
+unfolding square
+M′ = square ((neg (whole 2) ∷ neg (whole 1) ∷ whole 0 ∷ []) ∷ (whole 4 ∷ neg (whole 2) ∷ neg (whole 2) ∷ []) ∷ (neg (whole 1) ∷ whole 0 ∷ neg (whole 1) ∷ []) ∷ []) ((neg (whole 2) ∷ whole 2 ∷ whole 4 ∷ []) ∷ (nan ∷ neg (whole 1) ∷ neg (whole 4) ∷ []) ∷ (nan ∷ nan ∷ whole 1 ∷ []) ∷ [])
+
 -- the identity
 identity : ℕ → State Float
 identity k = record { n = k; L = λ i j. cond (eqb i j) (whole 1) (whole 0); U = λ i j. cond (eqb i j) (whole 1) (whole 0) }
@@ -66,6 +85,15 @@ pub record BenchTable : Type 0 where
   P-remove-answer : call P (remove 1 1) .answer ≡ moved none none
   zero-diagonal : call (single (neg (whole 0))) (solve (whole 5 ∷ [])) .answer ≡ refusedAt 9 0
   zero-diagonal-stands : call (single (neg (whole 0))) (solve (whole 5 ∷ [])) .solved ≡ whole 5 ∷ []
+  -- the plain solve takes the L product, and the transpose solve the transposed one
+  Q-solve : call Q (solve (whole 8 ∷ whole 2 ∷ [])) .solved ≡ whole 1 ∷ whole 1 ∷ []
+  Q-transpose-solve : call Q (solveTransposed (whole 3 ∷ whole 7 ∷ [])) .solved ≡ whole 1 ∷ whole 1 ∷ []
+  -- three rows, as the Rust has them: elimination upward and downward, with and without exchanges, and columns and rows that move
+  M-replace-row : factors (call M (replaceRow 1 (neg (whole 2) ∷ neg (whole 2) ∷ whole 3 ∷ [])) .after) ≡ record { L = (whole 3 ∷ whole 0 ∷ whole 2 ∷ []) ∷ (whole 3 ∷ whole 1 ∷ whole 2 ∷ []) ∷ (whole 0 ∷ double 1 2 ∷ neg (whole 1) ∷ []) ∷ []; U = (whole 2 ∷ neg (whole 2) ∷ whole 1 ∷ []) ∷ (neg (whole 4) ∷ whole 4 ∷ []) ∷ (whole 4 ∷ []) ∷ [] }
+  M-replace-column : factors (call M (replaceColumn 0 (neg (whole 2) ∷ neg (whole 2) ∷ whole 3 ∷ [])) .after) ≡ record { L = (whole 0 ∷ whole 2 ∷ whole 0 ∷ []) ∷ (double 3 4 ∷ neg (double 3 2) ∷ neg (double 1 2) ∷ []) ∷ (double 15 4 ∷ neg (double 3 2) ∷ double 3 2 ∷ []) ∷ []; U = (neg (whole 4) ∷ neg (whole 2) ∷ whole 1 ∷ []) ∷ (whole 2 ∷ whole 2 ∷ []) ∷ (whole 3 ∷ []) ∷ [] }
+  M-remove-first : factors (call M (remove 0 0) .after) ≡ record { L = (neg (whole 1) ∷ neg (whole 1) ∷ []) ∷ (double 1 2 ∷ double 5 2 ∷ []) ∷ []; U = (whole 2 ∷ whole 2 ∷ []) ∷ (neg (whole 3) ∷ []) ∷ [] }
+  M-remove-last-row : factors (call M (remove 2 1) .after) ≡ record { L = (whole 0 ∷ whole 2 ∷ []) ∷ (double 3 2 ∷ neg (whole 2) ∷ []) ∷ []; U = (whole 2 ∷ whole 1 ∷ []) ∷ (whole 2 ∷ []) ∷ [] }
+  trimmed : factors (call M′ (replaceRow 1 (whole 4 ∷ whole 4 ∷ neg (whole 4) ∷ [])) .after) ≡ record { L = (whole 0 ∷ whole 1 ∷ whole 0 ∷ []) ∷ (neg (whole 4) ∷ double 1 2 ∷ whole 1 ∷ []) ∷ (neg (whole 1) ∷ whole 0 ∷ neg (whole 1) ∷ []) ∷ []; U = (whole 4 ∷ whole 4 ∷ neg (whole 4) ∷ []) ∷ (double 9 2 ∷ whole 4 ∷ []) ∷ (whole 1 ∷ []) ∷ [] }
   -- remove names the row and the column that it moved, each in its place
   removed-row : call P (remove 0 1) .answer ≡ moved (some 1) none
   removed-column : call P (remove 1 0) .answer ≡ moved none (some 1)
@@ -73,6 +101,10 @@ pub record BenchTable : Type 0 where
   forward-nan : factors (call (single (whole 2)) (push (nan ∷ []) (whole 6 ∷ []) (whole 1)) .after) ≡ record { L = (whole 1 ∷ whole 0 ∷ []) ∷ (whole 0 ∷ whole 1 ∷ []) ∷ []; U = (whole 2 ∷ whole 6 ∷ []) ∷ (whole 1 ∷ []) ∷ [] }
   -- and Backward's is none of Forward's: a NaN is eliminated there
   backward-nan : call (identity 3) (replaceColumn 0 (whole 1 ∷ nan ∷ whole 1 ∷ [])) .after .U 1 1 ≡ nan
+  -- at their limits: |y| = E × |U| passes Forward, |v| = E × |v(selected)| is skipped, and |v| = E is trimmed
+  forward-limit : forwardActs (ieee binary64) (double 1 2) (whole 2) (whole 1) ≡ false
+  backward-limit : backwardSkips (ieee binary64) (double 1 2) (whole 2) (whole 1) ≡ true
+  trim-limit : trim (ieee binary64) (whole 1) 0 2 (λ i. whole 1) ≡ 0
   -- dense(2) is cleared though Backward skips row 2: else U(1,2) would take what stood there
   dense-cleared : call (identity 4) (replaceColumn 0 (whole 1 ∷ whole 1 ∷ whole 0 ∷ whole 1 ∷ [])) .after .U 1 2 ≡ whole 0
   -- 8191 × 2^-65 lies between the two E's: it passes Forward in one interface and is eliminated in the other
@@ -80,7 +112,7 @@ pub record BenchTable : Type 0 where
   zero-based-epsilon : factors (callZeroBased (single (whole 1)) (push (double 8191 (2 ^ 65) ∷ []) (whole 0 ∷ []) (whole 1)) .after) ≡ record { L = (whole 1 ∷ whole 0 ∷ []) ∷ (neg (double 8191 (2 ^ 65)) ∷ whole 1 ∷ []) ∷ []; U = (whole 1 ∷ whole 0 ∷ []) ∷ (whole 1 ∷ []) ∷ [] }
 
 pub benchTable : BenchTable
-unfolding call callZeroBased factors empty single P identity
+unfolding call callZeroBased factors empty single P Q square M M′ identity
 benchTable = record {
   P-is = refl;
   P-solve = refl;
@@ -91,10 +123,20 @@ benchTable = record {
   P-remove-answer = refl;
   zero-diagonal = refl;
   zero-diagonal-stands = refl;
+  Q-solve = refl;
+  Q-transpose-solve = refl;
+  M-replace-row = refl;
+  M-replace-column = refl;
+  M-remove-first = refl;
+  M-remove-last-row = refl;
+  trimmed = refl;
   removed-row = refl;
   removed-column = refl;
   forward-nan = refl;
   backward-nan = refl;
+  forward-limit = refl;
+  backward-limit = refl;
+  trim-limit = refl;
   dense-cleared = refl;
   managed-epsilon = refl;
   zero-based-epsilon = refl;

@@ -92,10 +92,6 @@ pub record RefusalOrder : Type 0 where
   solve-accepted : refuses sound (solve ones) ≡ none
   solve-length-first : refuses (diagonal (whole 0) nan nan) (solve []) ≡ some (refused 7)
   transposed-length-first : refuses (diagonal (whole 0) nan nan) (solveTransposed []) ≡ some (refused 7)
-  -- the first bad diagonal is named, whichever it is
-  zero-first : refuses (diagonal (whole 1) (neg (whole 0)) nan) (solve ones) ≡ some (refusedAt 9 1)
-  nan-first : refuses (diagonal nan (whole 0) (whole 0)) (solve ones) ≡ some (refusedAt 10 0)
-  infinite-first : refuses (diagonal (whole 1) (whole 1) (inf false)) (solveTransposed ones) ≡ some (refusedAt 10 2)
 
 pub refusalOrder : RefusalOrder
 unfolding refuses refusal diagonals diagonal sound ones nearest neg eq ofBits
@@ -115,7 +111,4 @@ refusalOrder = record {
   solve-accepted = refl;
   solve-length-first = refl;
   transposed-length-first = refl;
-  zero-first = refl;
-  nan-first = refl;
-  infinite-first = refl;
 }

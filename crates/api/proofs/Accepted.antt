@@ -1,0 +1,70 @@
+-- What an outcome says of an accepted call: it is the machine's, the dimension stays within the capacity, an update leaves the solve work and the buffers'
+-- ends, and a solve leaves the factors.
+use mathlib.Core.Path.{_≡_, refl, sym, ap, subst}
+use mathlib.Core.Bool.{Bool, true, false, not, _&&_, cond}
+use mathlib.Core.List.{List}
+use mathlib.Core.Option.{Option, none}
+use Prim.Native.Nat.{ℕ, _+_, _*_, _≤_, _<_, max}
+use native.Mathlib.Omega.{arith}
+use lib.Dec.{T as So, eqb, ltb, nltb→le, T-not, eqb-refl}
+use lib.ListN.{length, getD}
+use Rattle.numerics.specs.NumberForm.{NumberForm}
+use Rattle.machine.specs.Calls.{Call, Answer, _orElse_, refuseIf, isPush, isUpdate}
+use Rattle.machine.specs.Machine.{accepted, stepUnder}
+use Rattle.machine.specs.Agreement.{Same}
+use Rattle.machine.proofs.Choice.{neqb→ne}
+use Rattle.machine.proofs.Refusals.{or-else-none, refuse-if-none}
+use Rattle.storage.specs.Places.{uLength, lIndex, workIndex, LPlace, UPlace, WorkPlace}
+use Rattle.storage.specs.Views.{viewL}
+use Rattle.storage.proofs.Places.{lIndex-within, lIndex-not-work, uIndex-within}
+use Rattle.api.specs.Instance.{Instance, view}
+use Rattle.api.specs.Refusals.{storageTests, lentTests, reached, refusalAt}
+use Rattle.api.specs.Outcome.{Frame, Outcome}
+use Rattle.api.proofs.ListClaim.{accepted-grows}
+
+module _ (N : NumberForm) (E T : N .Value) {c : Call (N .Value)} {s t : Instance (N .Value)} {a : Answer} {b : List (N .Value)} (o : Outcome N E T c s t a b)
+    (e : refusalAt N s c ≡ none) where
+  open NumberForm N using (absent)
+
+  pub accepted-same : Same (record { answer = a; solved = b; after = view N t }) (accepted N E T (view N s) c)
+  unfolding stepUnder
+  accepted-same = subst (λ (p : Option Answer). Same (record { answer = a; solved = b; after = view N t }) (stepUnder N E T p (view N s) c)) e (o .result)
+
+  -- not refused by 1, nor by 4
+  reached-within : reached s c ≤ s .c
+  unfolding refusalAt lentTests storageTests
+  reached-within =
+      let tests = or-else-none _ _ e in
+      let n≤c = nltb→le (s .c) (s .n) (refuse-if-none (ltb (s .c) (s .n)) 1 (or-else-none _ _ (or-else-none _ _ (tests .0) .0) .0)) in
+      go (isPush c) n≤c (refuse-if-none (isPush c && eqb (s .n) (s .c)) 4 (or-else-none _ _ (tests .1) .0))
+    where
+      go : (p : Bool) → s .n ≤ s .c → So (not (p && eqb (s .n) (s .c))) → s .n + cond p 1 0 ≤ s .c
+      go true h k = omega (arith, neqb→ne (s .n) (s .c) k)
+      go false h k = omega arith
+
+  pub dimension-within : max (s .n) (t .n) ≤ s .c
+  dimension-within = omega (arith, accepted-same .after .n, accepted-grows N E T (view N s) c, reached-within)
+
+  -- ---- an update
+
+  module _ (update : isUpdate c ≡ true) where
+    framed : Frame N true s t
+    framed = subst (λ (p : Bool). Frame N p s t) update (o .frame e)
+
+    pub update-leaves-L : (q : ℕ) → s .c * s .c ≤ q → getD (t .l) q absent ≡ getD (s .l) q absent
+    update-leaves-L q h = framed .l .same q (λ p. omega (arith, p .4, lIndex-within (s .c) (p .0) (p .1) (omega (arith, p .2, dimension-within)) (omega (arith, p .3, dimension-within))))
+
+    pub update-leaves-U : (q : ℕ) → uLength (s .c) ≤ q → getD (t .u) q absent ≡ getD (s .u) q absent
+    update-leaves-U q h = framed .u .same q (λ p. omega (arith, p .4, uIndex-within (s .c) (p .0) (p .1) (p .2) (omega (arith, p .3, dimension-within))))
+
+  -- ---- a solve
+
+  module _ (solves : isUpdate c ≡ false) where
+    pub solve-leaves-U : t .u ≡ s .u
+    solve-leaves-U = subst (λ (p : Bool). Frame N p s t) solves (o .frame e) .u
+
+    pub solve-leaves-L : (i j : ℕ) → i < s .n → j < s .n → viewL N (s .c) (t .l) i j ≡ viewL N (s .c) (s .l) i j
+    solve-leaves-L i j hi hj =
+        let f = subst (λ (p : Bool). Frame N p s t) solves (o .frame e) in
+        f .l .same (lIndex (s .c) i j)
+        (λ p. lIndex-not-work (s .c) i j (p .0) (omega (arith, dimension-within)) (omega (arith, dimension-within)) (p .2))
