@@ -1,12 +1,24 @@
--- Document 01's bench table of the definitions, whole: its rows on storage, on pairs and on the machine, with the computed lines beside them.
+-- Document 01's bench table of the definitions, whole, as one finite check: its rows on storage, on pairs and on calls, with the computed lines beside them.
 use Rattle.numerics.specs.PairStep.{PairTable, pairTable}
+use Rattle.machine.specs.BenchTable.{CallTable, callTable, TrapTable, trapTable}
+use Rattle.machine.specs.Solves.{FirstDiagonal, firstDiagonal}
 use Rattle.storage.specs.Places.{PlaceTable, placeTable}
-use Rattle.machine.specs.BenchTable as machine
+use Rattle.api.specs.Refusals.{RefusalOrder, refusalOrder}
 
 pub record BenchTable : Type 0 where
   pub places : PlaceTable
   pub pairs : PairTable
-  pub calls : machine.BenchTable
+  pub calls : CallTable
+  pub traps : TrapTable
+  pub diagonals : FirstDiagonal
+  pub refusals : RefusalOrder
 
 pub benchTable : BenchTable
-benchTable = record { places = placeTable; pairs = pairTable; calls = machine.benchTable }
+benchTable = record {
+  places = placeTable;
+  pairs = pairTable;
+  calls = callTable;
+  traps = trapTable;
+  diagonals = firstDiagonal;
+  refusals = refusalOrder;
+}

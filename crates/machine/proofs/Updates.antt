@@ -8,7 +8,7 @@ use lib.Dec.{leb, ltb, eqb, ltb→lt, eqb→eq}
 use Rattle.numerics.specs.NumberForm.{NumberForm}
 use Rattle.machine.specs.Tables.{Vector, Table, Work, put}
 use Rattle.machine.specs.Products.{entry, unset, product}
-use Rattle.machine.specs.Forward.{forward}
+use Rattle.machine.specs.Forward.{copyDenseToRow, forwardRows, forward}
 use Rattle.machine.specs.Backward.{trim, backward}
 use Rattle.machine.specs.Updates.{putColumn, putSelected, columnCopied, bordered, columnCleared, unitRow, restoredFrom, restored, pushed, columnReplaced, rowReplacedFrom, rowReplaced, columnDropped, removed}
 use Rattle.machine.specs.Agreement.{AgreeWithin}
@@ -61,6 +61,11 @@ module _ (N : NumberForm) (E T : N .Value) where
         (restored-from-same s lo b (omega arith) (omega arith) h)
 
   -- ---- the calls
+
+  -- At new n = 1: L = 1, U = d.
+  pub first-push : (L U : Table Value) (d : Value) → (pushed N E T 0 L U [] [] d .L 0 0 ≡ 𝟏) × (pushed N E T 0 L U [] [] d .U 0 0 ≡ d)
+  unfolding pushed bordered forward forwardRows copyDenseToRow
+  first-push L U d = (refl, refl)
 
   module _ (n : ℕ) (L U L′ U′ : Table Value) (hL : (i j : ℕ) → i < n → j < n → L i j ≡ L′ i j) (hU : (i j : ℕ) → i ≤ j → j < n → U i j ≡ U′ i j) where
     bordered-same : (row column : List Value) (d : Value) → AgreeWithin (suc n) 0 (suc n) (suc n) (bordered N n L U row column d) (bordered N n L′ U′ row column d)

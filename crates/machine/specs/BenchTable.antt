@@ -1,9 +1,9 @@
--- Document 01's bench table for the machine, and computed lines for the traps that its rows don't show. One finite check of the definitions.
+-- Document 01's bench table for the machine (CallTable), and computed lines for what its rows don't tell apart (TrapTable).
 use mathlib.Core.Path.{_≡_, refl}
 use mathlib.Core.Bool.{true, false, cond}
-use mathlib.Core.List.{List, [], _∷_}
+use mathlib.Core.List.{List, [], _∷_, _++_}
 use mathlib.Core.Option.{none, some}
-use Prim.Native.Nat.{ℕ, zero, suc, _+_, _-_, _^_}
+use Prim.Native.Nat.{ℕ, zero, suc, _+_, _-_, _*_, _^_}
 use lib.Dec.{eqb}
 use lib.ListN.{getD}
 use lib.Ieee.{Float, nan, binary64, add, sub, mul, div, le, lt, eq, neg, ofBits}
@@ -21,30 +21,35 @@ use Rattle.machine.specs.Machine.{refusal, accepted, stepUnder, step}
 
 -- a call under the managed tolerances. Who unfolds `call` unfolds the whole machine
 call : State Float → Call Float → Result Float
-unfolding step stepUnder accepted refusal diagonals pushed bordered columnReplaced putColumn restored restoredFrom putSelected rowReplaced rowReplacedFrom columnCleared unitRow columnDropped columnCopied removed forward copyDenseToRow forwardRows forwardRow forwardActs forwardTransform backward copyRowToDense negligible trim backwardRows backwardRow clearDense backwardSkips backwardTransform transformRows pairStep first second product productTransposed sum substituted backSubstitution forwardSubstitution solution solutionTransposed nearest absolute managedEpsilon updateTiny add sub mul div le lt eq neg ofBits
+unfolding step stepUnder accepted refusal diagonals solution solutionTransposed substituted backSubstitution forwardSubstitution
+    pushed bordered columnReplaced putColumn restored restoredFrom putSelected rowReplaced rowReplacedFrom columnCleared unitRow removed columnDropped columnCopied
+    forward copyDenseToRow forwardRows forwardRow forwardActs forwardTransform transformRows
+    backward copyRowToDense negligible trim backwardRows backwardRow clearDense backwardSkips backwardTransform
+    product productTransposed sum pairStep first second managedEpsilon updateTiny nearest absolute add sub mul div le lt eq neg ofBits
 call = step (ieee binary64) (managedEpsilon binary64) (managedTiny binary64)
 
--- a call under the zero-based tolerances
-callZeroBased : State Float → Call Float → Result Float
-unfolding call zeroBasedEpsilon
-callZeroBased = step (ieee binary64) zeroBasedEpsilon zeroBasedTiny
-
--- the active entries
+-- the active entries, row by row
 pub record Factors : Type 0 where
-  pub L : List (List Float)
-  pub U : List (List Float)
+  pub L : List Float
+  pub U : List Float
+
+-- the lists f 0 to f (k - 1), one after another
+joined : ℕ → (ℕ → List Float) → List Float
+joined zero f = []
+joined (suc k) f = joined k f ++ f k
 
 factors : State Float → Factors
+unfolding joined
 factors S = record {
-  L = tabulate (S .n) (λ i. tabulate (S .n) (λ j. S .L i j));
-  U = tabulate (S .n) (λ i. tabulate (S .n - i) (λ j. S .U i (i + j)));
+  L = joined (S .n) (λ i. tabulate (S .n) (λ j. S .L i j));
+  U = joined (S .n) (λ i. tabulate (S .n - i) (λ j. S .U i (i + j)));
 }
 
 -- dimension 0: a NaN stands wherever no call has written
 empty : State Float
 empty = record { n = 0; L = λ i j. nan; U = λ i j. nan }
 
--- a state of dimension 1
+-- dimension 1, by a push
 single : Float → State Float
 unfolding call empty
 single d = call empty (push [] [] d) .after
@@ -53,67 +58,32 @@ P : State Float
 unfolding call single
 P = call (single (whole 2)) (push (whole 4 ∷ []) (whole 6 ∷ []) (whole 1)) .after
 
--- dimension 2 with an L that is not symmetric, as P's is: rows (2,6) and (1,1)
-Q : State Float
-unfolding call single
-Q = call (single (whole 2)) (push (whole 1 ∷ []) (whole 6 ∷ []) (whole 1)) .after
-
--- dimension 3 with those rows; a NaN stands below U's diagonal
-square : List (List Float) → List (List Float) → State Float
-square L U = record { n = 3; L = λ i j. getD (getD L i []) j nan; U = λ i j. getD (getD U i []) j nan }
-
-M : State Float
-unfolding square
-M = square ((whole 0 ∷ whole 2 ∷ whole 0 ∷ []) ∷ (whole 0 ∷ neg (whole 1) ∷ neg (whole 1) ∷ []) ∷ (whole 3 ∷ neg (whole 2) ∷ whole 2 ∷ []) ∷ []) ((whole 2 ∷ neg (whole 2) ∷ whole 1 ∷ []) ∷ (nan ∷ whole 2 ∷ whole 2 ∷ []) ∷ (nan ∷ nan ∷ whole 0 ∷ []) ∷ [])
-
--- L's column 1 ends in a zero, which Backward trims
-M′ : State Float
-unfolding square
-M′ = square ((neg (whole 2) ∷ neg (whole 1) ∷ whole 0 ∷ []) ∷ (whole 4 ∷ neg (whole 2) ∷ neg (whole 2) ∷ []) ∷ (neg (whole 1) ∷ whole 0 ∷ neg (whole 1) ∷ []) ∷ []) ((neg (whole 2) ∷ whole 2 ∷ whole 4 ∷ []) ∷ (nan ∷ neg (whole 1) ∷ neg (whole 4) ∷ []) ∷ (nan ∷ nan ∷ whole 1 ∷ []) ∷ [])
-
--- the identity
-identity : ℕ → State Float
-identity k = record { n = k; L = λ i j. cond (eqb i j) (whole 1) (whole 0); U = λ i j. cond (eqb i j) (whole 1) (whole 0) }
-
-pub record BenchTable : Type 0 where
-  P-is : factors P ≡ record { L = (whole 0 ∷ whole 1 ∷ []) ∷ (whole 1 ∷ neg (double 1 2) ∷ []) ∷ []; U = (whole 4 ∷ whole 1 ∷ []) ∷ (double 11 2 ∷ []) ∷ [] }
+pub record CallTable : Type 0 where
+  P-is : factors P ≡ record {
+    L = whole 0 ∷ whole 1 ∷ whole 1 ∷ neg (double 1 2) ∷ [];
+    U = whole 4 ∷ whole 1 ∷ double 11 2 ∷ [];
+  }
   P-solve : call P (solve (whole 8 ∷ whole 5 ∷ [])) .solved ≡ whole 1 ∷ whole 1 ∷ []
   P-transpose-solve : call P (solveTransposed (whole 6 ∷ whole 7 ∷ [])) .solved ≡ whole 1 ∷ whole 1 ∷ []
-  P-replace-column : factors (call P (replaceColumn 0 (whole 1 ∷ whole 8 ∷ [])) .after) ≡ record { L = (whole 0 ∷ whole 1 ∷ []) ∷ (whole 1 ∷ neg (double 1 8) ∷ []) ∷ []; U = (whole 8 ∷ whole 1 ∷ []) ∷ (double 47 8 ∷ []) ∷ [] }
-  P-replace-row : factors (call P (replaceRow 0 (whole 1 ∷ whole 1 ∷ [])) .after) ≡ record { L = (whole 0 ∷ whole 1 ∷ []) ∷ (whole 1 ∷ neg (double 1 4) ∷ []) ∷ []; U = (whole 4 ∷ whole 1 ∷ []) ∷ (double 3 4 ∷ []) ∷ [] }
-  P-remove : factors (call P (remove 1 1) .after) ≡ record { L = (whole 1 ∷ []) ∷ []; U = (whole 2 ∷ []) ∷ [] }
+  P-replace-column : factors (call P (replaceColumn 0 (whole 1 ∷ whole 8 ∷ [])) .after) ≡ record {
+    L = whole 0 ∷ whole 1 ∷ whole 1 ∷ neg (double 1 8) ∷ [];
+    U = whole 8 ∷ whole 1 ∷ double 47 8 ∷ [];
+  }
+  P-replace-row : factors (call P (replaceRow 0 (whole 1 ∷ whole 1 ∷ [])) .after) ≡ record {
+    L = whole 0 ∷ whole 1 ∷ whole 1 ∷ neg (double 1 4) ∷ [];
+    U = whole 4 ∷ whole 1 ∷ double 3 4 ∷ [];
+  }
+  P-remove : factors (call P (remove 1 1) .after) ≡ record {
+    L = whole 1 ∷ [];
+    U = whole 2 ∷ [];
+  }
   P-remove-answer : call P (remove 1 1) .answer ≡ moved none none
   zero-diagonal : call (single (neg (whole 0))) (solve (whole 5 ∷ [])) .answer ≡ refusedAt 9 0
   zero-diagonal-stands : call (single (neg (whole 0))) (solve (whole 5 ∷ [])) .solved ≡ whole 5 ∷ []
-  -- the plain solve takes the L product, and the transpose solve the transposed one
-  Q-solve : call Q (solve (whole 8 ∷ whole 2 ∷ [])) .solved ≡ whole 1 ∷ whole 1 ∷ []
-  Q-transpose-solve : call Q (solveTransposed (whole 3 ∷ whole 7 ∷ [])) .solved ≡ whole 1 ∷ whole 1 ∷ []
-  -- three rows, as the Rust has them: elimination upward and downward, with and without exchanges, and columns and rows that move
-  M-replace-row : factors (call M (replaceRow 1 (neg (whole 2) ∷ neg (whole 2) ∷ whole 3 ∷ [])) .after) ≡ record { L = (whole 3 ∷ whole 0 ∷ whole 2 ∷ []) ∷ (whole 3 ∷ whole 1 ∷ whole 2 ∷ []) ∷ (whole 0 ∷ double 1 2 ∷ neg (whole 1) ∷ []) ∷ []; U = (whole 2 ∷ neg (whole 2) ∷ whole 1 ∷ []) ∷ (neg (whole 4) ∷ whole 4 ∷ []) ∷ (whole 4 ∷ []) ∷ [] }
-  M-replace-column : factors (call M (replaceColumn 0 (neg (whole 2) ∷ neg (whole 2) ∷ whole 3 ∷ [])) .after) ≡ record { L = (whole 0 ∷ whole 2 ∷ whole 0 ∷ []) ∷ (double 3 4 ∷ neg (double 3 2) ∷ neg (double 1 2) ∷ []) ∷ (double 15 4 ∷ neg (double 3 2) ∷ double 3 2 ∷ []) ∷ []; U = (neg (whole 4) ∷ neg (whole 2) ∷ whole 1 ∷ []) ∷ (whole 2 ∷ whole 2 ∷ []) ∷ (whole 3 ∷ []) ∷ [] }
-  M-remove-first : factors (call M (remove 0 0) .after) ≡ record { L = (neg (whole 1) ∷ neg (whole 1) ∷ []) ∷ (double 1 2 ∷ double 5 2 ∷ []) ∷ []; U = (whole 2 ∷ whole 2 ∷ []) ∷ (neg (whole 3) ∷ []) ∷ [] }
-  M-remove-last-row : factors (call M (remove 2 1) .after) ≡ record { L = (whole 0 ∷ whole 2 ∷ []) ∷ (double 3 2 ∷ neg (whole 2) ∷ []) ∷ []; U = (whole 2 ∷ whole 1 ∷ []) ∷ (whole 2 ∷ []) ∷ [] }
-  trimmed : factors (call M′ (replaceRow 1 (whole 4 ∷ whole 4 ∷ neg (whole 4) ∷ [])) .after) ≡ record { L = (whole 0 ∷ whole 1 ∷ whole 0 ∷ []) ∷ (neg (whole 4) ∷ double 1 2 ∷ whole 1 ∷ []) ∷ (neg (whole 1) ∷ whole 0 ∷ neg (whole 1) ∷ []) ∷ []; U = (whole 4 ∷ whole 4 ∷ neg (whole 4) ∷ []) ∷ (double 9 2 ∷ whole 4 ∷ []) ∷ (whole 1 ∷ []) ∷ [] }
-  -- remove names the row and the column that it moved, each in its place
-  removed-row : call P (remove 0 1) .answer ≡ moved (some 1) none
-  removed-column : call P (remove 1 0) .answer ≡ moved none (some 1)
-  -- Forward's guard is no negation of Backward's: a NaN passes Forward untouched
-  forward-nan : factors (call (single (whole 2)) (push (nan ∷ []) (whole 6 ∷ []) (whole 1)) .after) ≡ record { L = (whole 1 ∷ whole 0 ∷ []) ∷ (whole 0 ∷ whole 1 ∷ []) ∷ []; U = (whole 2 ∷ whole 6 ∷ []) ∷ (whole 1 ∷ []) ∷ [] }
-  -- and Backward's is none of Forward's: a NaN is eliminated there
-  backward-nan : call (identity 3) (replaceColumn 0 (whole 1 ∷ nan ∷ whole 1 ∷ [])) .after .U 1 1 ≡ nan
-  -- at their limits: |y| = E × |U| passes Forward, |v| = E × |v(selected)| is skipped, and |v| = E is trimmed
-  forward-limit : forwardActs (ieee binary64) (double 1 2) (whole 2) (whole 1) ≡ false
-  backward-limit : backwardSkips (ieee binary64) (double 1 2) (whole 2) (whole 1) ≡ true
-  trim-limit : trim (ieee binary64) (whole 1) 0 2 (λ i. whole 1) ≡ 0
-  -- dense(2) is cleared though Backward skips row 2: else U(1,2) would take what stood there
-  dense-cleared : call (identity 4) (replaceColumn 0 (whole 1 ∷ whole 1 ∷ whole 0 ∷ whole 1 ∷ [])) .after .U 1 2 ≡ whole 0
-  -- 8191 × 2^-65 lies between the two E's: it passes Forward in one interface and is eliminated in the other
-  managed-epsilon : factors (call (single (whole 1)) (push (double 8191 (2 ^ 65) ∷ []) (whole 0 ∷ []) (whole 1)) .after) ≡ record { L = (whole 1 ∷ whole 0 ∷ []) ∷ (whole 0 ∷ whole 1 ∷ []) ∷ []; U = (whole 1 ∷ whole 0 ∷ []) ∷ (whole 1 ∷ []) ∷ [] }
-  zero-based-epsilon : factors (callZeroBased (single (whole 1)) (push (double 8191 (2 ^ 65) ∷ []) (whole 0 ∷ []) (whole 1)) .after) ≡ record { L = (whole 1 ∷ whole 0 ∷ []) ∷ (neg (double 8191 (2 ^ 65)) ∷ whole 1 ∷ []) ∷ []; U = (whole 1 ∷ whole 0 ∷ []) ∷ (whole 1 ∷ []) ∷ [] }
 
-pub benchTable : BenchTable
-unfolding call callZeroBased factors empty single P Q square M M′ identity
-benchTable = record {
+pub callTable : CallTable
+unfolding call factors joined empty single P
+callTable = record {
   P-is = refl;
   P-solve = refl;
   P-transpose-solve = refl;
@@ -123,6 +93,95 @@ benchTable = record {
   P-remove-answer = refl;
   zero-diagonal = refl;
   zero-diagonal-stands = refl;
+}
+
+-- ---- beyond the table: what its rows don't tell apart
+
+-- a call under the zero-based tolerances
+callZeroBased : State Float → Call Float → Result Float
+unfolding call zeroBasedEpsilon
+callZeroBased = step (ieee binary64) zeroBasedEpsilon zeroBasedTiny
+
+-- dimension 2 with an L that, unlike P's, is not symmetric: the rows (2,6) and (1,1)
+Q : State Float
+unfolding call single
+Q = call (single (whole 2)) (push (whole 1 ∷ []) (whole 6 ∷ []) (whole 1)) .after
+
+-- dimension 3 with those entries, row by row; of U's, what stands below the diagonal is not active
+square : List Float → List Float → State Float
+square L U = record { n = 3; L = λ i j. getD L (i * 3 + j) nan; U = λ i j. getD U (i * 3 + j) nan }
+
+M : State Float
+unfolding square
+M = square
+    (whole 0 ∷ whole 2 ∷ whole 0 ∷ whole 0 ∷ neg (whole 1) ∷ neg (whole 1) ∷ whole 3 ∷ neg (whole 2) ∷ whole 2 ∷ [])
+    (whole 2 ∷ neg (whole 2) ∷ whole 1 ∷ nan ∷ whole 2 ∷ whole 2 ∷ nan ∷ nan ∷ whole 0 ∷ [])
+
+-- L's column 1 ends in a zero, which Backward trims
+M′ : State Float
+unfolding square
+M′ = square
+    (neg (whole 2) ∷ neg (whole 1) ∷ whole 0 ∷ whole 4 ∷ neg (whole 2) ∷ neg (whole 2) ∷ neg (whole 1) ∷ whole 0 ∷ neg (whole 1) ∷ [])
+    (neg (whole 2) ∷ whole 2 ∷ whole 4 ∷ nan ∷ neg (whole 1) ∷ neg (whole 4) ∷ nan ∷ nan ∷ whole 1 ∷ [])
+
+-- the identity
+identity : ℕ → State Float
+identity k = record { n = k; L = λ i j. cond (eqb i j) (whole 1) (whole 0); U = λ i j. cond (eqb i j) (whole 1) (whole 0) }
+
+pub record TrapTable : Type 0 where
+  -- the plain solve takes the L product, and the transpose solve the transposed one
+  Q-solve : call Q (solve (whole 8 ∷ whole 2 ∷ [])) .solved ≡ whole 1 ∷ whole 1 ∷ []
+  Q-transpose-solve : call Q (solveTransposed (whole 3 ∷ whole 7 ∷ [])) .solved ≡ whole 1 ∷ whole 1 ∷ []
+  -- three rows, by what the Rust makes of them: both eliminations with and without exchanges, a trimmed end, rows and columns that move
+  M-replace-row : factors (call M (replaceRow 1 (neg (whole 2) ∷ neg (whole 2) ∷ whole 3 ∷ [])) .after) ≡ record {
+    L = whole 3 ∷ whole 0 ∷ whole 2 ∷ whole 3 ∷ whole 1 ∷ whole 2 ∷ whole 0 ∷ double 1 2 ∷ neg (whole 1) ∷ [];
+    U = whole 2 ∷ neg (whole 2) ∷ whole 1 ∷ neg (whole 4) ∷ whole 4 ∷ whole 4 ∷ [];
+  }
+  M-replace-column : factors (call M (replaceColumn 0 (neg (whole 2) ∷ neg (whole 2) ∷ whole 3 ∷ [])) .after) ≡ record {
+    L = whole 0 ∷ whole 2 ∷ whole 0 ∷ double 3 4 ∷ neg (double 3 2) ∷ neg (double 1 2) ∷ double 15 4 ∷ neg (double 3 2) ∷ double 3 2 ∷ [];
+    U = neg (whole 4) ∷ neg (whole 2) ∷ whole 1 ∷ whole 2 ∷ whole 2 ∷ whole 3 ∷ [];
+  }
+  M-remove-first : factors (call M (remove 0 0) .after) ≡ record {
+    L = neg (whole 1) ∷ neg (whole 1) ∷ double 1 2 ∷ double 5 2 ∷ [];
+    U = whole 2 ∷ whole 2 ∷ neg (whole 3) ∷ [];
+  }
+  M-remove-last-row : factors (call M (remove 2 1) .after) ≡ record {
+    L = whole 0 ∷ whole 2 ∷ double 3 2 ∷ neg (whole 2) ∷ [];
+    U = whole 2 ∷ whole 1 ∷ whole 2 ∷ [];
+  }
+  trimmed : factors (call M′ (replaceRow 1 (whole 4 ∷ whole 4 ∷ neg (whole 4) ∷ [])) .after) ≡ record {
+    L = whole 0 ∷ whole 1 ∷ whole 0 ∷ neg (whole 4) ∷ double 1 2 ∷ whole 1 ∷ neg (whole 1) ∷ whole 0 ∷ neg (whole 1) ∷ [];
+    U = whole 4 ∷ whole 4 ∷ neg (whole 4) ∷ double 9 2 ∷ whole 4 ∷ whole 1 ∷ [];
+  }
+  -- remove names the row and the column that it moved, each in its place
+  removed-row : call P (remove 0 1) .answer ≡ moved (some 1) none
+  removed-column : call P (remove 1 0) .answer ≡ moved none (some 1)
+  -- Forward's guard is no negation of Backward's: a NaN passes Forward untouched
+  forward-nan : factors (call (single (whole 2)) (push (nan ∷ []) (whole 6 ∷ []) (whole 1)) .after) ≡ record {
+    L = whole 1 ∷ whole 0 ∷ whole 0 ∷ whole 1 ∷ [];
+    U = whole 2 ∷ whole 6 ∷ whole 1 ∷ [];
+  }
+  -- and Backward's is none of Forward's: a NaN is eliminated there
+  backward-nan : call (identity 3) (replaceColumn 0 (whole 1 ∷ nan ∷ whole 1 ∷ [])) .after .U 1 1 ≡ nan
+  -- at their limits: |y| = E × |U| passes Forward, |v| = E × |v(selected)| is skipped, and |v| = E is trimmed
+  forward-limit : forwardActs (ieee binary64) (double 1 2) (whole 2) (whole 1) ≡ false
+  backward-limit : backwardSkips (ieee binary64) (double 1 2) (whole 2) (whole 1) ≡ true
+  trim-limit : trim (ieee binary64) (whole 1) 0 2 (λ i. whole 1) ≡ 0
+  -- dense(2) is cleared though Backward skips row 2: else U(1,2) would take what stood there
+  dense-cleared : call (identity 4) (replaceColumn 0 (whole 1 ∷ whole 1 ∷ whole 0 ∷ whole 1 ∷ [])) .after .U 1 2 ≡ whole 0
+  -- 8191 × 2^-65 lies between the two E's: it passes Forward in one interface and is eliminated in the other
+  managed-epsilon : factors (call (single (whole 1)) (push (double 8191 (2 ^ 65) ∷ []) (whole 0 ∷ []) (whole 1)) .after) ≡ record {
+    L = whole 1 ∷ whole 0 ∷ whole 0 ∷ whole 1 ∷ [];
+    U = whole 1 ∷ whole 0 ∷ whole 1 ∷ [];
+  }
+  zero-based-epsilon : factors (callZeroBased (single (whole 1)) (push (double 8191 (2 ^ 65) ∷ []) (whole 0 ∷ []) (whole 1)) .after) ≡ record {
+    L = whole 1 ∷ whole 0 ∷ neg (double 8191 (2 ^ 65)) ∷ whole 1 ∷ [];
+    U = whole 1 ∷ whole 0 ∷ whole 1 ∷ [];
+  }
+
+pub trapTable : TrapTable
+unfolding call callZeroBased factors joined empty single P Q square M M′ identity
+trapTable = record {
   Q-solve = refl;
   Q-transpose-solve = refl;
   M-replace-row = refl;
