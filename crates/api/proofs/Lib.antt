@@ -1,5 +1,2 @@
-pub mod Refusals
-pub mod Refused
-pub mod Accepted
-pub mod ListClaim
-pub mod Managed
+pub mod StorageTests
+pub mod Demands

@@ -1,6 +1,2 @@
-pub mod Instance
-pub mod Refusals
 pub mod Adoption
-pub mod Outcome
-pub mod Lists
-pub mod BenchTable
+pub mod Demands

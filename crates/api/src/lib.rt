@@ -1,7 +1,7 @@
 // The managed interface: a dimension and a capacity by value, and storage lent to each call.
 ghost use mathlib.Core.Path.{_≡_};
 ghost use lib.ListN.{length};
-ghost use Rattle.api.specs.Refusals.{storageTests};
+ghost use Rattle.managed.specs.Refusals.{storageTests};
 ghost use Rattle.api.specs.Adoption.{testOf, adoptionOf, adoptedUnder};
 use storage::RequiredLengths;
 use storage::storage_lengths;

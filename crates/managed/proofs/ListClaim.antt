@@ -13,10 +13,10 @@ use Rattle.machine.specs.Machine.{refusal, accepted, stepUnder, step, run}
 use Rattle.machine.specs.Agreement.{Agree, Same}
 use Rattle.machine.proofs.Choice.{agree-trans, same-sym, same-trans}
 use Rattle.machine.proofs.Step.{step-same}
-use Rattle.api.specs.Instance.{view}
-use Rattle.api.specs.Refusals.{refusalAt}
-use Rattle.api.specs.Lists.{pushes, AllSame, Event, resultOf, results, Happens, Trace, Setting, Claim}
-use Rattle.api.proofs.Refusals.{refusals-with-room}
+use Rattle.managed.specs.Instance.{view}
+use Rattle.managed.specs.Refusals.{refusalAt}
+use Rattle.managed.specs.Lists.{pushes, AllSame, Event, resultOf, results, Happens, Trace, Setting, Claim}
+use Rattle.managed.proofs.Refusals.{refusals-with-room}
 
 module _ {A : Type 0} where
   -- what is the same as one list of results is the same as each other

@@ -1,44 +1,18 @@
--- The tests of storage along each way through the code, and the refusals of an instance that has room: they are the plain machine's.
-use mathlib.Core.Path.{_≡_, refl, sym, ap, _∙_}
-use mathlib.Core.Bool.{Bool, true, false, not, _&&_, _||_, or-true, cond}
-use mathlib.Core.List.{List}
-use mathlib.Core.Option.{Option, none, some}
+-- An instance that has room refuses just what the plain machine refuses.
+use mathlib.Core.Path.{_≡_, ap, _∙_}
+use mathlib.Core.Bool.{Bool, true, false, _&&_, cond}
+use mathlib.Core.Option.{Option, none}
 use Prim.Native.Nat.{ℕ, _+_, _≤_, _<_}
 use native.Mathlib.Omega.{arith}
 use lib.Dec.{T as So, ltb, eqb, ltb→lt, eqb→eq}
 use lib.ListN.{length}
 use lib.Ieee.Fits.{and-l, and-r}
-use borrow.Author.Tests.{lt-ltb, le-ltb}
 use Rattle.numerics.specs.NumberForm.{NumberForm}
-use Rattle.machine.specs.Calls.{Call, Answer, refused, _orElse_, refuseIf, isPush, isUpdate}
+use Rattle.machine.specs.Calls.{Call, Answer, _orElse_, refuseIf, isPush, isUpdate}
 use Rattle.machine.specs.Machine.{refusal}
 use Rattle.machine.proofs.Refusals.{or-else-last, refuse-if-false}
-use Rattle.storage.specs.Places.{lLength, uLength, overflows}
-use Rattle.api.specs.Instance.{Instance, view}
-use Rattle.api.specs.Refusals.{storageTests, lentTests, reached, refusalAt}
-
-module _ (n c l u : ℕ) where
-  pub invalid-dimension : c < n → some (refused 1) ≡ storageTests n c l u
-  unfolding storageTests
-  invalid-dimension h = rw (lt-ltb c n h)
-
-  module _ (hn : n ≤ c) where
-    pub size-overflow : overflows c ≡ true → some (refused 2) ≡ storageTests n c l u
-    unfolding storageTests
-    size-overflow h = rw (le-ltb c n hn, h)
-
-    module _ (ho : overflows c ≡ false) where
-      pub short-L : l < lLength c → some (refused 3) ≡ storageTests n c l u
-      unfolding storageTests
-      short-L h = rw (le-ltb c n hn, ho, lt-ltb l (lLength c) h)
-
-      pub short-U : u < uLength c → some (refused 3) ≡ storageTests n c l u
-      unfolding storageTests
-      short-U h = rw (le-ltb c n hn, ho, lt-ltb u (uLength c) h, or-true (ltb l (lLength c)))
-
-      pub storage-passes : lLength c ≤ l → uLength c ≤ u → none ≡ storageTests n c l u
-      unfolding storageTests
-      storage-passes h k = rw (le-ltb c n hn, ho, le-ltb l (lLength c) h, le-ltb u (uLength c) k)
+use Rattle.managed.specs.Instance.{Instance, view}
+use Rattle.managed.specs.Refusals.{lentTests, reached, refusalAt}
 
 module _ (N : NumberForm) (s : Instance (N .Value)) (c : Call (N .Value)) where
   -- With room for the pushes, an instance whose storage passes refuses just what the plain machine refuses: 4 and 8 don't occur.

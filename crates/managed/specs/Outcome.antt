@@ -10,8 +10,8 @@ use Rattle.machine.specs.Machine.{stepUnder}
 use Rattle.machine.specs.Agreement.{Same}
 use Rattle.storage.specs.Places.{LPlace, UPlace, WorkPlace}
 use Rattle.storage.specs.Views.{Kept}
-use Rattle.api.specs.Instance.{Instance, view}
-use Rattle.api.specs.Refusals.{refusalAt}
+use Rattle.managed.specs.Instance.{Instance, view}
+use Rattle.managed.specs.Refusals.{refusalAt}
 
 module _ (N : NumberForm) where
   open NumberForm N using (Value)

@@ -17,10 +17,10 @@ use Rattle.machine.proofs.Refusals.{or-else-none, refuse-if-none}
 use Rattle.storage.specs.Places.{uLength, lIndex, workIndex, LPlace, UPlace, WorkPlace}
 use Rattle.storage.specs.Views.{viewL}
 use Rattle.storage.proofs.Places.{lIndex-within, lIndex-not-work, uIndex-within}
-use Rattle.api.specs.Instance.{Instance, view}
-use Rattle.api.specs.Refusals.{storageTests, lentTests, reached, refusalAt}
-use Rattle.api.specs.Outcome.{Frame, Outcome}
-use Rattle.api.proofs.ListClaim.{accepted-grows}
+use Rattle.managed.specs.Instance.{Instance, view}
+use Rattle.managed.specs.Refusals.{storageTests, lentTests, reached, refusalAt}
+use Rattle.managed.specs.Outcome.{Frame, Outcome}
+use Rattle.managed.proofs.ListClaim.{accepted-grows}
 
 module _ (N : NumberForm) (E T : N .Value) {c : Call (N .Value)} {s t : Instance (N .Value)} {a : Answer} {b : List (N .Value)} (o : Outcome N E T c s t a b)
     (e : refusalAt N s c ≡ none) where

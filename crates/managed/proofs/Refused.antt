@@ -6,9 +6,9 @@ use Rattle.numerics.specs.NumberForm.{NumberForm}
 use Rattle.machine.specs.Calls.{Call, Answer, given}
 use Rattle.machine.specs.Machine.{stepUnder}
 use Rattle.machine.specs.Agreement.{Same}
-use Rattle.api.specs.Instance.{Instance, view}
-use Rattle.api.specs.Refusals.{refusalAt}
-use Rattle.api.specs.Outcome.{Outcome}
+use Rattle.managed.specs.Instance.{Instance, view}
+use Rattle.managed.specs.Refusals.{refusalAt}
+use Rattle.managed.specs.Outcome.{Outcome}
 
 module _ (N : NumberForm) (E T : N .Value) {c : Call (N .Value)} {s t : Instance (N .Value)} {a : Answer} {b : List (N .Value)} (o : Outcome N E T c s t a b) where
   -- dimension, capacity, factors, right-hand side and workspaces

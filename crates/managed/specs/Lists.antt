@@ -11,9 +11,9 @@ use Rattle.machine.specs.Tables.{State}
 use Rattle.machine.specs.Calls.{Call, Answer, Result, isPush, isUpdate}
 use Rattle.machine.specs.Machine.{run}
 use Rattle.machine.specs.Agreement.{Agree, Same}
-use Rattle.api.specs.Instance.{Instance, view}
-use Rattle.api.specs.Refusals.{lentTests}
-use Rattle.api.specs.Outcome.{Outcome}
+use Rattle.managed.specs.Instance.{Instance, view}
+use Rattle.managed.specs.Refusals.{lentTests}
+use Rattle.managed.specs.Outcome.{Outcome}
 
 module _ {A : Type 0} where
   -- Pushes in the list are counted whether refused or not.

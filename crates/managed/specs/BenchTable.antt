@@ -3,7 +3,7 @@ use Rattle.numerics.specs.PairStep.{PairTable, pairTable}
 use Rattle.machine.specs.BenchTable.{CallTable, callTable, TrapTable, trapTable}
 use Rattle.machine.specs.Solves.{FirstDiagonal, firstDiagonal}
 use Rattle.storage.specs.Places.{PlaceTable, placeTable}
-use Rattle.api.specs.Refusals.{RefusalOrder, refusalOrder}
+use Rattle.managed.specs.Refusals.{RefusalOrder, refusalOrder}
 
 pub record BenchTable : Type 0 where
   pub places : PlaceTable

@@ -13,7 +13,7 @@ use Rattle.machine.specs.Calls.{Call, push, replaceRow, replaceColumn, remove, 
 use Rattle.machine.specs.Solves.{diagonals}
 use Rattle.machine.specs.Machine.{refusal}
 use Rattle.storage.specs.Places.{lLength, uLength, overflows, uIndex}
-use Rattle.api.specs.Instance.{Instance, view}
+use Rattle.managed.specs.Instance.{Instance, view}
 
 -- 1: n > c. 2: c + 1 or c × (c + 1) exceeds usize. 3: L or U too short. For a dimension, a capacity and the lengths of L and U
 unfoldable pub storageTests : ℕ → ℕ → ℕ → ℕ → Option Answer

@@ -1,0 +1,4 @@
+pub mod Refusals
+pub mod Refused
+pub mod Accepted
+pub mod ListClaim

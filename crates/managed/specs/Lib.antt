@@ -1,0 +1,5 @@
+pub mod Instance
+pub mod Refusals
+pub mod Outcome
+pub mod Lists
+pub mod BenchTable
