@@ -41,7 +41,7 @@ abbrev pub oneOf : Format → Float
 oneOf binary32 = ofBits binary32 0x3F80_0000
 oneOf binary64 = ofBits binary64 0x3FF0_0000_0000_0000
 
--- IEEE 754's operations at a format, as the kit's library has them
+-- IEEE 754's operations at a format, as the program logic's library has them
 abbrev pub ieee : Format → NumberForm
 ieee f = record {
   Value = Float;
