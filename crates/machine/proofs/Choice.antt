@@ -6,7 +6,7 @@ use Prim.Native.Nat.{ℕ, zero, suc, _≤_, _<_}
 use native.Mathlib.Omega.{arith}
 use lib.Dec.{T as So, leb, ltb, eqb, ltb→lt, leb→le, T-not, eqb-refl}
 use lib.Ieee.Fits.{and-l, and-r}
-use Rattle.machine.specs.Tables.{Vector, Table, State, Work, stateOf, tabulate}
+use Rattle.machine.specs.Tables.{Vector, State, Work, stateOf, tabulate}
 use Rattle.machine.specs.Calls.{Result}
 use Rattle.machine.specs.Agreement.{Agree, Same, AgreeWithin}
 

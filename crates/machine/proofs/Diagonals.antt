@@ -1,19 +1,17 @@
 -- A solve whose length is right is refused exactly when some active diagonal is bad, and it names the first such.
 use mathlib.Core.Path.{_≡_, refl, ap, _∙_}
-use mathlib.Core.Bool.{not}
 use mathlib.Core.List.{List}
 use mathlib.Core.Logic.{⊎-elim}
 use mathlib.Core.Option.{Option, none, some}
-use Prim.Native.Nat.{ℕ, zero, suc, _≤_, _<_}
+use Prim.Native.Nat.{ℕ, zero, suc, _<_}
 use native.Mathlib.Nat.{eq-or-lt-of-le, le-of-suc-le-suc}
 use native.Mathlib.Omega.{arith}
-use lib.Dec.{eqb}
 use lib.ListN.{length}
 use borrow.Author.Tests.{eq-eqb}
 use Rattle.numerics.specs.NumberForm.{NumberForm}
 use Rattle.machine.specs.Tables.{Table, State}
 use Rattle.machine.specs.Solves.{badDiagonal, diagonals}
-use Rattle.machine.specs.Calls.{Answer, solve, solveTransposed, _orElse_, refuseIf}
+use Rattle.machine.specs.Calls.{Answer, solve, solveTransposed, _orElse_}
 use Rattle.machine.specs.Machine.{refusal}
 use Rattle.machine.proofs.Refusals.{or-else-none}
 

@@ -6,8 +6,7 @@ use Prim.Native.Nat.{ℕ, zero, suc, _+_, _-_, _≤_, _<_}
 use native.Mathlib.Omega.{arith}
 use lib.Dec.{eqb}
 use Rattle.numerics.specs.NumberForm.{NumberForm}
-use Rattle.machine.specs.Tables.{Vector, Table, State}
-use Rattle.machine.specs.Products.{entry, product}
+use Rattle.machine.specs.Tables.{Vector, Table}
 use Rattle.machine.specs.Solves.{substituted, backSubstitution, forwardSubstitution, solution, solutionTransposed, badDiagonal, diagonals}
 use Rattle.machine.specs.Calls.{_orElse_}
 use Rattle.machine.proofs.Choice.{tabulate-same}

@@ -1,16 +1,14 @@
 -- Two states that agree give, for each call, the same answer, the same solved vector and states that agree.
 use mathlib.Core.Path.{_≡_, refl, subst}
 use mathlib.Core.Bool.{not}
-use mathlib.Core.List.{List}
 use mathlib.Core.Option.{Option, none, some}
-use Prim.Native.Nat.{ℕ, suc, _+_, _-_, _≤_, _<_}
+use Prim.Native.Nat.{ℕ, suc, _-_, _≤_, _<_}
 use native.Mathlib.Omega.{arith}
 use lib.Dec.{leb, eqb, nleb→lt}
 use lib.ListN.{length}
 use Rattle.numerics.specs.NumberForm.{NumberForm}
 use Rattle.machine.specs.Tables.{Table, State}
-use Rattle.machine.specs.Solves.{diagonals}
-use Rattle.machine.specs.Calls.{Call, push, replaceRow, replaceColumn, remove, solve, solveTransposed, Answer, Result, _orElse_, refuseIf}
+use Rattle.machine.specs.Calls.{Call, push, replaceRow, replaceColumn, remove, solve, solveTransposed, Answer, _orElse_, refuseIf}
 use Rattle.machine.specs.Machine.{refusal, accepted, stepUnder, step}
 use Rattle.machine.specs.Agreement.{Agree, Same}
 use Rattle.machine.proofs.Choice.{within-state}

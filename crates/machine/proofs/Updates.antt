@@ -1,15 +1,15 @@
 -- Independence of the four updates, for two states of dimension n that agree.
 use mathlib.Core.Path.{_≡_, refl, sym, subst}
-use mathlib.Core.Bool.{Bool, cond, _&&_}
+use mathlib.Core.Bool.{_&&_}
 use mathlib.Core.List.{List, []}
 use Prim.Native.Nat.{ℕ, zero, suc, _-_, _≤_, _<_}
 use native.Mathlib.Omega.{arith}
 use lib.Dec.{leb, ltb, eqb, ltb→lt, eqb→eq}
 use Rattle.numerics.specs.NumberForm.{NumberForm}
-use Rattle.machine.specs.Tables.{Vector, Table, Work, put}
-use Rattle.machine.specs.Products.{entry, unset, product}
+use Rattle.machine.specs.Tables.{Table, Work}
+use Rattle.machine.specs.Products.{entry, unset}
 use Rattle.machine.specs.Forward.{copyDenseToRow, forwardRows, forward}
-use Rattle.machine.specs.Backward.{trim, backward}
+use Rattle.machine.specs.Backward.{trim}
 use Rattle.machine.specs.Updates.{putColumn, putSelected, columnCopied, bordered, columnCleared, unitRow, restoredFrom, restored, pushed, columnReplaced, rowReplacedFrom, rowReplaced, columnDropped, removed}
 use Rattle.machine.specs.Agreement.{AgreeWithin}
 use Rattle.machine.proofs.Choice.{neqb→ne, choose, within-choose, within-from}

@@ -16,7 +16,7 @@ use Rattle.machine.specs.Forward.{copyDenseToRow, transformRows, forward
 use Rattle.machine.specs.Backward.{copyRowToDense, negligible, trim, clearDense, backwardSkips, backwardTransform, backwardRow, backwardRows, backward}
 use Rattle.machine.specs.Updates.{putColumn, putSelected, columnCopied, bordered, columnCleared, unitRow, restoredFrom, restored, pushed, columnReplaced, rowReplacedFrom, rowReplaced, columnDropped, removed}
 use Rattle.machine.specs.Solves.{substituted, backSubstitution, forwardSubstitution, solution, solutionTransposed, diagonals}
-use Rattle.machine.specs.Calls.{Call, push, replaceRow, replaceColumn, remove, solve, solveTransposed, done, moved, refusedAt, Result}
+use Rattle.machine.specs.Calls.{Call, push, replaceRow, replaceColumn, remove, solve, solveTransposed, moved, refusedAt, Result}
 use Rattle.machine.specs.Machine.{refusal, accepted, stepUnder, step}
 
 -- a call under the managed tolerances. Who unfolds `call` unfolds the whole machine

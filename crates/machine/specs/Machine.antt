@@ -1,18 +1,18 @@
 -- The plain machine: which calls it refuses, what an accepted call leaves, one step, and a run of a list of calls. Below stand computed lines for the order
 -- of the refusals, one for each two conditions that can hold at once.
 use mathlib.Core.Path.{_≡_, refl}
-use mathlib.Core.Bool.{not, _&&_, cond, false}
+use mathlib.Core.Bool.{not, _&&_, cond}
 use mathlib.Core.List.{List, [], _∷_}
 use mathlib.Core.Option.{Option, none, some}
-use Prim.Native.Nat.{ℕ, suc, _-_}
+use Prim.Native.Nat.{suc, _-_}
 use lib.Dec.{leb, eqb}
 use lib.ListN.{length, getD}
-use lib.Ieee.{Float, nan, inf, binary64, neg, eq, ofBits}
+use lib.Ieee.{Float, nan, binary64, neg, eq, ofBits}
 use Rattle.numerics.specs.NumberForm.{NumberForm, nearest, ieee, whole}
 use Rattle.machine.specs.Tables.{State, stateOf}
 use Rattle.machine.specs.Updates.{pushed, columnReplaced, rowReplaced, removed}
 use Rattle.machine.specs.Solves.{solution, solutionTransposed, diagonals}
-use Rattle.machine.specs.Calls.{Call, push, replaceRow, replaceColumn, remove, solve, solveTransposed, Answer, done, moved, refused, refusedAt, Result, _orElse_, refuseIf, given}
+use Rattle.machine.specs.Calls.{Call, push, replaceRow, replaceColumn, remove, solve, solveTransposed, Answer, done, moved, refused, Result, _orElse_, refuseIf, given}
 
 module _ (N : NumberForm) where
   open NumberForm N using (Value)

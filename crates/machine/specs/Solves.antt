@@ -1,6 +1,6 @@
 -- The two solves of the plain machine, and the diagonals that they refuse. Below stand computed lines for which diagonal is named.
 use mathlib.Core.Path.{_≡_, refl}
-use mathlib.Core.Bool.{cond, true, false}
+use mathlib.Core.Bool.{cond, true}
 use mathlib.Core.List.{List, [], _∷_}
 use mathlib.Core.Option.{Option, none, some}
 use Prim.Native.Nat.{ℕ, zero, suc, _+_, _-_}

@@ -4,7 +4,7 @@ use mathlib.Core.List.{List, []}
 use Prim.Native.Nat.{ℕ, zero, suc, _-_}
 use lib.Dec.{leb, ltb, eqb}
 use Rattle.numerics.specs.NumberForm.{NumberForm}
-use Rattle.machine.specs.Tables.{Vector, Table, Work, put}
+use Rattle.machine.specs.Tables.{Table, Work, put}
 use Rattle.machine.specs.Products.{entry, unset, product}
 use Rattle.machine.specs.Forward.{forward}
 use Rattle.machine.specs.Backward.{trim, backward}

@@ -1,20 +1,20 @@
 -- What an outcome says of an accepted call: it is the machine's, the dimension stays within the capacity, an update leaves the solve work and the buffers'
 -- ends, and a solve leaves the factors.
-use mathlib.Core.Path.{_≡_, refl, sym, ap, subst}
+use mathlib.Core.Path.{_≡_, subst}
 use mathlib.Core.Bool.{Bool, true, false, not, _&&_, cond}
 use mathlib.Core.List.{List}
 use mathlib.Core.Option.{Option, none}
 use Prim.Native.Nat.{ℕ, _+_, _*_, _≤_, _<_, max}
 use native.Mathlib.Omega.{arith}
-use lib.Dec.{T as So, eqb, ltb, nltb→le, T-not, eqb-refl}
-use lib.ListN.{length, getD}
+use lib.Dec.{T as So, eqb, ltb, nltb→le}
+use lib.ListN.{getD}
 use Rattle.numerics.specs.NumberForm.{NumberForm}
-use Rattle.machine.specs.Calls.{Call, Answer, _orElse_, refuseIf, isPush, isUpdate}
+use Rattle.machine.specs.Calls.{Call, Answer, isPush, isUpdate}
 use Rattle.machine.specs.Machine.{accepted, stepUnder}
 use Rattle.machine.specs.Agreement.{Same}
 use Rattle.machine.proofs.Choice.{neqb→ne}
 use Rattle.machine.proofs.Refusals.{or-else-none, refuse-if-none}
-use Rattle.storage.specs.Places.{uLength, lIndex, workIndex, LPlace, UPlace, WorkPlace}
+use Rattle.storage.specs.Places.{uLength, lIndex}
 use Rattle.storage.specs.Views.{viewL}
 use Rattle.storage.proofs.Places.{lIndex-within, lIndex-not-work, uIndex-within}
 use Rattle.managed.specs.Instance.{Instance, view}

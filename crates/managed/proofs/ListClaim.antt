@@ -1,20 +1,18 @@
 -- Demand 3, whole, over any number form and tolerances: for every list of the six calls, two instances and the plain machine give the same after each call.
-use mathlib.Core.Path.{_≡_, refl, subst}
+use mathlib.Core.Path.{subst}
 use mathlib.Core.Bool.{cond}
 use mathlib.Core.List.{List, [], _∷_}
 use mathlib.Core.Option.{Option, none, some}
-use Prim.Native.Nat.{ℕ, _+_, _-_, _≤_}
+use Prim.Native.Nat.{ℕ, _+_, _≤_}
 use native.Mathlib.Omega.{arith}
-use lib.Dec.{T as So}
 use Rattle.numerics.specs.NumberForm.{NumberForm}
 use Rattle.machine.specs.Tables.{State}
-use Rattle.machine.specs.Calls.{Call, push, replaceRow, replaceColumn, remove, solve, solveTransposed, Answer, Result, isPush, isUpdate}
+use Rattle.machine.specs.Calls.{Call, push, replaceRow, replaceColumn, remove, solve, solveTransposed, Answer, Result, isPush}
 use Rattle.machine.specs.Machine.{refusal, accepted, stepUnder, step, run}
 use Rattle.machine.specs.Agreement.{Agree, Same}
 use Rattle.machine.proofs.Choice.{agree-trans, same-sym, same-trans}
 use Rattle.machine.proofs.Step.{step-same}
 use Rattle.managed.specs.Instance.{view}
-use Rattle.managed.specs.Refusals.{refusalAt}
 use Rattle.managed.specs.Lists.{pushes, AllSame, Event, resultOf, results, Happens, Trace, Setting, Claim}
 use Rattle.managed.proofs.Refusals.{refusals-with-room}
 

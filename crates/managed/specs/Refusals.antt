@@ -1,12 +1,12 @@
 -- The refusals of the managed calls, 1 to 10, in document 01's order. Below stand computed lines for that order, one for each two conditions that follow
 -- one another and can hold at once.
 use mathlib.Core.Path.{_≡_, refl}
-use mathlib.Core.Bool.{Bool, true, false, not, _&&_, _||_, cond}
+use mathlib.Core.Bool.{not, _&&_, _||_, cond}
 use mathlib.Core.List.{List, [], _∷_}
 use mathlib.Core.Option.{Option, none, some}
-use Prim.Native.Nat.{ℕ, zero, suc, _+_, _^_}
+use Prim.Native.Nat.{ℕ, _+_, _^_}
 use lib.Dec.{ltb, eqb}
-use lib.ListN.{length, getD, replicate}
+use lib.ListN.{length, replicate}
 use lib.Ieee.{Float, nan, binary64, eq, ofBits}
 use Rattle.numerics.specs.NumberForm.{NumberForm, nearest, ieee, whole}
 use Rattle.machine.specs.Calls.{Call, push, replaceRow, replaceColumn, remove, solve, solveTransposed, Answer, refused, refusedAt, _orElse_, refuseIf, isPush, isUpdate}

@@ -2,8 +2,8 @@
 -- `round` keeps the order. The guard t has to be a number that is not negative, as both T's are: at x = y = 0 any other t lets 0 / 0 through (`unguarded` in PairStep).
 use mathlib.Core.Path.{_≡_, refl, sym, ap, _∙_, subst}
 use mathlib.Core.Logic.{inl, inr}
-use Prim.Native.Nat.{ℕ, zero, suc, _+_, _*_, _^_, _≤_, _<_, zero-le}
-use native.Mathlib.Nat.{le-of-lt, le-of-eq, lt-of-lt-of-le, lt-of-le-of-lt, lt-of-not-le, lt-irrefl, zero-lt-suc, eq-zero-or-pos, eq-or-lt-of-le, mul-one, one-mul, zero-mul, mul-pos, le-add-left, le-add-right}
+use Prim.Native.Nat.{ℕ, suc, _+_, _*_, _^_, _≤_, _<_, zero-le}
+use native.Mathlib.Nat.{le-of-lt, le-of-eq, lt-of-le-of-lt, lt-of-not-le, lt-irrefl, zero-lt-suc, eq-zero-or-pos, eq-or-lt-of-le, zero-mul, mul-pos}
 use native.Mathlib.Omega.{arith}
 use mathlib.Core.Bool.{Bool, true, false, not, _&&_, _||_, cond}
 use lib.IntN.{ℤ, pos}
@@ -15,7 +15,7 @@ use lib.Ieee.Order.{round-mono}
 use lib.Ieee.Positive.{first-pos}
 use lib.Ieee.Scale.{finite}
 use Rattle.numerics.specs.NumberForm.{absolute, zeroOf, ieee}
-use Rattle.numerics.specs.PairStep.{Step, stepOf, pairStep, Within}
+use Rattle.numerics.specs.PairStep.{Step, pairStep, Within}
 use Rattle.numerics.specs.Tolerances.{managedEpsilon, zeroBasedEpsilon, updateTiny, managedTiny, zeroBasedTiny}
 use Rattle.numerics.proofs.FromBits.{odd-absolute, cond-absolute}
 

@@ -1,7 +1,7 @@
 -- Absolute value and finiteness from the bits, in either format: a pattern without its sign's bit is that of the absolute value, and a value is finite
 -- exactly if the exponent's field is not all ones.
 use mathlib.Core.Path.{_≡_, refl, sym, ap, _∙_, subst}
-use Prim.Native.Nat.{ℕ, zero, suc, _+_, _-_, _/_, _%_, _<_}
+use Prim.Native.Nat.{ℕ, zero, suc, _+_, _-_, _/_, _%_}
 use native.Mathlib.Nat.{mod-lt, mod-mod, mod-mod-of-dvd, dvd-mul-right, mul-pos, zero-lt-suc}
 use mathlib.Core.Bool.{Bool, true, false, not, cond, true≢false}
 use lib.Dec.{T, leb, eqb}

@@ -1,6 +1,6 @@
 -- A number form: a type of numbers with the operations that document 01's steps use, and no laws. The steps, the storage and the lists of calls are
 -- stated over any number form; `ieee binary64` is the doubles', rounded once at each operation, with one NaN.
-use mathlib.Core.Bool.{Bool, true, false}
+use mathlib.Core.Bool.{Bool, false}
 use Prim.Native.Nat.{ℕ}
 use lib.Ieee.{Float, nan, inf, fin, Format, binary32, binary64, ofBits, round}
 use lib.Ieee.Scale.{finite}

@@ -1,6 +1,5 @@
 -- `storage_lengths`: its one test is the definition's overflow.
 use borrow.Author.Needs.{needs}
-use native.Mathlib.Omega.{arith}
 use Rattle.storage.proofs.Lengths.{length-fits, not-overflows, overflows-from}
 use Rattle.storage.proofs.storage_lengths.Statement.{statement}
 use Rattle.storage.proofs.storage_lengths.Tie as tie

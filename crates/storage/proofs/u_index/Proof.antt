@@ -1,7 +1,7 @@
 -- `u_index`: row 0 apart, the code computes the definition step by step.
 use borrow.Author.Needs.{needs}
 use native.Mathlib.Omega.{arith}
-use mathlib.Core.Path.{_≡_, refl}
+use mathlib.Core.Path.{refl}
 use Prim.Native.Nat.{_+_, _-_, _*_, _^_, _≤_, _<_}
 use Rattle.storage.specs.Places.{uIndex}
 use Rattle.storage.proofs.Places.{row-fits, triangle-le, uIndex-row-0}

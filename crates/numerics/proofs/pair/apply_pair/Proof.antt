@@ -1,9 +1,9 @@
 -- `apply_pair`: each way through its two tests is a law of Branches.
 use mathlib.Core.Path.{_≡_}
 use mathlib.Core.Logic.{⊎-elim}
-use lib.Ieee.{binary64, ne, eq}
+use lib.Ieee.{binary64, ne}
 use borrow.Author.Tests.{not-true, not-false}
-use Rattle.numerics.specs.NumberForm.{ieee, zeroOf}
+use Rattle.numerics.specs.NumberForm.{ieee}
 use Rattle.numerics.specs.PairStep.{first}
 use Rattle.numerics.proofs.Branches.{exchanged, kept, added, not-added}
 use Rattle.numerics.proofs.pair.apply_pair.Statement.{statement}

@@ -1,7 +1,7 @@
 -- `is_finite`: the laws of FromBits at binary64.
 use mathlib.Core.Path.{sym, subst}
 use lib.Dec.{T}
-use lib.Ieee.{binary64, fits}
+use lib.Ieee.{binary64}
 use Rattle.numerics.proofs.FromBits.{is-number, finite-of-bits, nan-not-finite}
 use Rattle.numerics.proofs.real.is_finite.Statement.{statement}
 use Rattle.numerics.proofs.real.is_finite.Tie as tie
