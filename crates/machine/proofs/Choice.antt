@@ -47,21 +47,10 @@ module _ {A : Type 0} where
   pub within-from : {m lo lo′ hi k : ℕ} {S R : Work A} → lo ≤ lo′ → AgreeWithin m lo hi k S R → AgreeWithin m lo′ hi k S R
   within-from l h = record { L = h .L; U = h .U; y = λ j a b. h .y j (omega arith) b; v = h .v }
 
-  pub within-trans : {m lo hi k : ℕ} {S R Q : Work A} → AgreeWithin m lo hi k S R → AgreeWithin m lo hi k R Q → AgreeWithin m lo hi k S Q
-  within-trans h g = record {
-    L = λ i j a b. h .L i j a b ∙ g .L i j a b;
-    U = λ i j a b. h .U i j a b ∙ g .U i j a b;
-    y = λ j a b. h .y j a b ∙ g .y j a b;
-    v = λ j a. h .v j a ∙ g .v j a;
-  }
-
   pub within-state : (p : ℕ) {m lo hi k : ℕ} {S R : Work A} → p ≤ m → AgreeWithin m lo hi k S R → Agree (stateOf p S) (stateOf p R)
   within-state p l h = record { n = refl; L = λ i j hi hj. h .L i j (omega arith) (omega arith); U = λ i j hij hj. h .U i j hij (omega arith) }
 
   -- ---- agreement of states and results
-
-  pub agree-refl : (S : State A) → Agree S S
-  agree-refl S = record { n = refl; L = λ i j _ _. refl; U = λ i j _ _. refl }
 
   pub agree-sym : {S R : State A} → Agree S R → Agree R S
   agree-sym h = record {

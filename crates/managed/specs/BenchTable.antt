@@ -1,6 +1,7 @@
 -- Document 01's bench table of the definitions, whole, as one finite check: its rows on storage, on pairs and on calls, with the computed lines beside them.
 use Rattle.numerics.specs.PairStep.{PairTable, pairTable}
 use Rattle.machine.specs.BenchTable.{CallTable, callTable, TrapTable, trapTable}
+use Rattle.machine.specs.Machine as machine
 use Rattle.machine.specs.Solves.{FirstDiagonal, firstDiagonal}
 use Rattle.storage.specs.Places.{PlaceTable, placeTable}
 use Rattle.managed.specs.Refusals.{RefusalOrder, refusalOrder}
@@ -11,6 +12,7 @@ pub record BenchTable : Type 0 where
   pub calls : CallTable
   pub traps : TrapTable
   pub diagonals : FirstDiagonal
+  pub machine-refusals : machine.RefusalOrder
   pub refusals : RefusalOrder
 
 pub benchTable : BenchTable
@@ -20,5 +22,6 @@ benchTable = record {
   calls = callTable;
   traps = trapTable;
   diagonals = firstDiagonal;
+  machine-refusals = machine.refusalOrder;
   refusals = refusalOrder;
 }
