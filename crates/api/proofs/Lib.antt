@@ -1,2 +1,1 @@
-pub mod StorageTests
 pub mod Demands

@@ -1,25 +1,23 @@
 -- What an outcome says of an accepted call: it is the machine's, the dimension stays within the capacity, an update leaves the solve work and the buffers'
 -- ends, and a solve leaves the factors.
 use mathlib.Core.Path.{_≡_, subst}
-use mathlib.Core.Bool.{Bool, true, false, not, _&&_, cond}
+use mathlib.Core.Bool.{Bool, true, false}
 use mathlib.Core.List.{List}
 use mathlib.Core.Option.{Option, none}
-use Prim.Native.Nat.{ℕ, _+_, _*_, _≤_, _<_, max}
+use Prim.Native.Nat.{ℕ, _*_, _≤_, _<_, max}
 use native.Mathlib.Omega.{arith}
-use lib.Dec.{T as So, eqb, ltb, nltb→le}
 use lib.ListN.{getD}
 use Rattle.numerics.specs.NumberForm.{NumberForm}
-use Rattle.machine.specs.Calls.{Call, Answer, isPush, isUpdate}
+use Rattle.machine.specs.Calls.{Call, Answer, isUpdate}
 use Rattle.machine.specs.Machine.{accepted, stepUnder}
 use Rattle.machine.specs.Agreement.{Same}
-use Rattle.machine.proofs.Choice.{neqb→ne}
-use Rattle.machine.proofs.Refusals.{or-else-none, refuse-if-none}
 use Rattle.storage.specs.Places.{uLength, lIndex}
 use Rattle.storage.specs.Views.{viewL}
 use Rattle.storage.proofs.Places.{lIndex-within, lIndex-not-work, uIndex-within}
 use Rattle.managed.specs.Instance.{Instance, view}
-use Rattle.managed.specs.Refusals.{storageTests, lentTests, reached, refusalAt}
+use Rattle.managed.specs.Refusals.{refusalAt}
 use Rattle.managed.specs.Outcome.{Frame, Outcome}
+use Rattle.managed.proofs.Refusals.{reached-within}
 use Rattle.managed.proofs.ListClaim.{accepted-grows}
 
 module _ (N : NumberForm) (E T : N .Value) {c : Call (N .Value)} {s t : Instance (N .Value)} {a : Answer} {b : List (N .Value)} (o : Outcome N E T c s t a b)
@@ -30,20 +28,8 @@ module _ (N : NumberForm) (E T : N .Value) {c : Call (N .Value)} {s t : Instance
   unfolding stepUnder
   accepted-same = subst (λ (p : Option Answer). Same (record { answer = a; solved = b; after = view N t }) (stepUnder N E T p (view N s) c)) e (o .result)
 
-  -- not refused by 1, nor by 4
-  reached-within : reached s c ≤ s .c
-  unfolding refusalAt lentTests storageTests
-  reached-within =
-      let tests = or-else-none _ _ e in
-      let n≤c = nltb→le (s .c) (s .n) (refuse-if-none (ltb (s .c) (s .n)) 1 (or-else-none _ _ (or-else-none _ _ (tests .0) .0) .0)) in
-      go (isPush c) n≤c (refuse-if-none (isPush c && eqb (s .n) (s .c)) 4 (or-else-none _ _ (tests .1) .0))
-    where
-      go : (p : Bool) → s .n ≤ s .c → So (not (p && eqb (s .n) (s .c))) → s .n + cond p 1 0 ≤ s .c
-      go true h k = omega (arith, neqb→ne (s .n) (s .c) k)
-      go false h k = omega arith
-
   pub dimension-within : max (s .n) (t .n) ≤ s .c
-  dimension-within = omega (arith, accepted-same .after .n, accepted-grows N E T (view N s) c, reached-within)
+  dimension-within = omega (arith, accepted-same .after .n, accepted-grows N E T (view N s) c, reached-within N s c e)
 
   -- ---- an update
 

@@ -1,4 +1,7 @@
+pub mod StorageTests
 pub mod Refusals
 pub mod Refused
 pub mod Accepted
 pub mod ListClaim
+pub mod Writing
+pub mod Existence

@@ -2,7 +2,7 @@
 use borrow.Author.Needs.{needs}
 use native.Mathlib.Omega.{arith}
 use Rattle.storage.proofs.Lengths.{refused-overflows, given-lengths}
-use Rattle.api.proofs.StorageTests.{invalid-dimension, size-overflow, short-L, short-U, storage-passes}
+use Rattle.managed.proofs.StorageTests.{invalid-dimension, size-overflow, short-L, short-U, storage-passes}
 use Rattle.api.proofs.test_storage.Statement.{statement}
 use Rattle.api.proofs.test_storage.Tie as tie
 

@@ -1,4 +1,4 @@
--- The tests of storage along each way through the code.
+-- The tests of storage, one law for each way through them.
 use mathlib.Core.Path.{_≡_}
 use mathlib.Core.Bool.{true, false, or-true}
 use mathlib.Core.Option.{none, some}
