@@ -1,7 +1,7 @@
 -- Demand 3 holds: the list claim of every number form, at the doubles with the managed tolerances.
 use lib.Ieee.{binary64}
-use Rattle.numerics.specs.NumberForm.{ieee}
-use Rattle.numerics.specs.Tolerances.{managedEpsilon, managedTiny}
+use Rattle.numbers.specs.NumberForm.{ieee}
+use Rattle.numbers.specs.Tolerances.{managedEpsilon, managedTiny}
 use Rattle.managed.proofs.ListClaim.{list-claim}
 use Rattle.api.specs.Demands.{Demand3}
 

@@ -2,8 +2,8 @@
 use mathlib.Core.List.{List}
 use Prim.Native.Nat.{ℕ}
 use lib.Ieee.{Float, binary64}
-use Rattle.numerics.specs.NumberForm.{ieee}
-use Rattle.numerics.specs.Tolerances.{managedEpsilon, managedTiny}
+use Rattle.numbers.specs.NumberForm.{ieee}
+use Rattle.numbers.specs.Tolerances.{managedEpsilon, managedTiny}
 use Rattle.machine.specs.Tables.{State}
 use Rattle.machine.specs.Calls.{Call}
 use Rattle.managed.specs.Lists.{Event, Setting, Claim}

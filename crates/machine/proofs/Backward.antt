@@ -5,8 +5,8 @@ use Prim.Native.Nat.{ℕ, zero, suc, _-_, _≤_, _<_}
 use native.Mathlib.Omega.{arith}
 use lib.Dec.{T as So, leb, ltb, eqb, ltb→lt, le→leb, lt→ltb, T-not}
 use lib.Ieee.Fits.{and-i, and-l, and-r}
-use Rattle.numerics.specs.NumberForm.{NumberForm}
-use Rattle.numerics.specs.PairStep.{Step, pairStep, first, second}
+use Rattle.numbers.specs.NumberForm.{NumberForm}
+use Rattle.numbers.specs.PairStep.{Step, pairStep, first, second}
 use Rattle.machine.specs.Tables.{Vector, Work}
 use Rattle.machine.specs.Backward.{copyRowToDense, negligible, trim, clearDense, backwardSkips, backwardTransform, backwardRow, backwardRows, backward}
 use Rattle.machine.specs.Agreement.{AgreeWithin}

@@ -5,8 +5,8 @@ use Prim.Native.Nat.{ℕ, zero, suc, _-_, _≤_, _<_}
 use native.Mathlib.Omega.{arith}
 use lib.Dec.{leb, ltb, eqb}
 use lib.Ieee.Fits.{and-r}
-use Rattle.numerics.specs.NumberForm.{NumberForm}
-use Rattle.numerics.specs.PairStep.{Step, pairStep, first, second}
+use Rattle.numbers.specs.NumberForm.{NumberForm}
+use Rattle.numbers.specs.PairStep.{Step, pairStep, first, second}
 use Rattle.machine.specs.Tables.{Table, Work}
 use Rattle.machine.specs.Forward.{copyDenseToRow, transformRows, forwardActs, forwardTransform, forwardRow, forwardRows, forward}
 use Rattle.machine.specs.Agreement.{AgreeWithin}

@@ -5,7 +5,7 @@ use mathlib.Core.List.{List}
 use Prim.Native.Nat.{ℕ, zero, suc, _+_, _-_, _≤_, _<_}
 use native.Mathlib.Omega.{arith}
 use lib.Dec.{eqb}
-use Rattle.numerics.specs.NumberForm.{NumberForm}
+use Rattle.numbers.specs.NumberForm.{NumberForm}
 use Rattle.machine.specs.Tables.{Vector, Table}
 use Rattle.machine.specs.Solves.{substituted, backSubstitution, forwardSubstitution, solution, solutionTransposed, badDiagonal, diagonals}
 use Rattle.machine.specs.Calls.{_orElse_}

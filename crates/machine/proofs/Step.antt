@@ -6,7 +6,7 @@ use Prim.Native.Nat.{ℕ, suc, _-_, _≤_, _<_}
 use native.Mathlib.Omega.{arith}
 use lib.Dec.{leb, eqb, nleb→lt}
 use lib.ListN.{length}
-use Rattle.numerics.specs.NumberForm.{NumberForm}
+use Rattle.numbers.specs.NumberForm.{NumberForm}
 use Rattle.machine.specs.Tables.{Table, State}
 use Rattle.machine.specs.Calls.{Call, push, replaceRow, replaceColumn, remove, solve, solveTransposed, Answer, _orElse_, refuseIf}
 use Rattle.machine.specs.Machine.{refusal, accepted, stepUnder, step}

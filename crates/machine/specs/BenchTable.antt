@@ -7,9 +7,9 @@ use Prim.Native.Nat.{ℕ, zero, suc, _+_, _-_, _*_, _^_}
 use lib.Dec.{eqb}
 use lib.ListN.{getD}
 use lib.Ieee.{Float, nan, binary64, add, sub, mul, div, le, lt, eq, neg, ofBits}
-use Rattle.numerics.specs.NumberForm.{ieee, nearest, absolute, double, whole}
-use Rattle.numerics.specs.Tolerances.{managedEpsilon, zeroBasedEpsilon, updateTiny, managedTiny, zeroBasedTiny}
-use Rattle.numerics.specs.PairStep.{pairStep, first, second}
+use Rattle.numbers.specs.NumberForm.{ieee, nearest, absolute, double, whole}
+use Rattle.numbers.specs.Tolerances.{managedEpsilon, zeroBasedEpsilon, updateTiny, managedTiny, zeroBasedTiny}
+use Rattle.numbers.specs.PairStep.{pairStep, first, second}
 use Rattle.machine.specs.Tables.{State, tabulate}
 use Rattle.machine.specs.Products.{sum, product, productTransposed}
 use Rattle.machine.specs.Forward.{copyDenseToRow, transformRows, forwardActs, forwardTransform, forwardRow, forwardRows, forward}

@@ -2,8 +2,8 @@
 use mathlib.Core.Bool.{Bool, cond, _&&_}
 use Prim.Native.Nat.{ℕ, zero, suc, _+_, _-_}
 use lib.Dec.{leb, ltb, eqb}
-use Rattle.numerics.specs.NumberForm.{NumberForm}
-use Rattle.numerics.specs.PairStep.{Step, pairStep, first, second}
+use Rattle.numbers.specs.NumberForm.{NumberForm}
+use Rattle.numbers.specs.PairStep.{Step, pairStep, first, second}
 use Rattle.machine.specs.Tables.{Table, Work}
 
 module _ {A : Type 0} where

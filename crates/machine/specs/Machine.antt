@@ -8,7 +8,7 @@ use Prim.Native.Nat.{suc, _-_}
 use lib.Dec.{leb, eqb}
 use lib.ListN.{length, getD}
 use lib.Ieee.{Float, nan, binary64, neg, eq, ofBits}
-use Rattle.numerics.specs.NumberForm.{NumberForm, nearest, ieee, whole}
+use Rattle.numbers.specs.NumberForm.{NumberForm, nearest, ieee, whole}
 use Rattle.machine.specs.Tables.{State, stateOf}
 use Rattle.machine.specs.Updates.{pushed, columnReplaced, rowReplaced, removed}
 use Rattle.machine.specs.Solves.{solution, solutionTransposed, diagonals}

@@ -6,7 +6,7 @@ use mathlib.Core.Option.{Option, none, some}
 use Prim.Native.Nat.{ℕ, zero, suc, _+_, _-_}
 use lib.ListN.{getD}
 use lib.Ieee.{Float, nan, inf, binary64, neg, eq, ofBits}
-use Rattle.numerics.specs.NumberForm.{NumberForm, nearest, ieee, whole}
+use Rattle.numbers.specs.NumberForm.{NumberForm, nearest, ieee, whole}
 use Rattle.machine.specs.Tables.{Vector, Table, State, put, tabulate}
 use Rattle.machine.specs.Products.{entry, sum, product, productTransposed}
 use Rattle.machine.specs.Calls.{Answer, refusedAt, _orElse_}

@@ -9,7 +9,7 @@ use native.Mathlib.Omega.{arith}
 use lib.Dec.{leb, le→leb, leb→le}
 use lib.ListN.{length}
 use borrow.Author.Tests.{eq-eqb}
-use Rattle.numerics.specs.NumberForm.{NumberForm}
+use Rattle.numbers.specs.NumberForm.{NumberForm}
 use Rattle.machine.specs.Tables.{State}
 use Rattle.machine.specs.Calls.{Call, push, replaceRow, replaceColumn, remove, solve, solveTransposed, Answer, isPush, isUpdate}
 use Rattle.machine.specs.Machine.{accepted, stepUnder}

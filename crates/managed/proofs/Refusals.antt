@@ -7,7 +7,7 @@ use native.Mathlib.Omega.{arith}
 use lib.Dec.{T as So, ltb, eqb, ltb→lt, eqb→eq, nltb→le}
 use lib.ListN.{length}
 use lib.Ieee.Fits.{and-l, and-r}
-use Rattle.numerics.specs.NumberForm.{NumberForm}
+use Rattle.numbers.specs.NumberForm.{NumberForm}
 use Rattle.machine.specs.Calls.{Call, Answer, _orElse_, refuseIf, isPush, isUpdate}
 use Rattle.machine.specs.Machine.{refusal}
 use Rattle.machine.proofs.Choice.{neqb→ne}

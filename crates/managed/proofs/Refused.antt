@@ -2,7 +2,7 @@
 use mathlib.Core.Path.{_≡_, subst}
 use mathlib.Core.List.{List}
 use mathlib.Core.Option.{Option, some}
-use Rattle.numerics.specs.NumberForm.{NumberForm}
+use Rattle.numbers.specs.NumberForm.{NumberForm}
 use Rattle.machine.specs.Calls.{Call, Answer, given}
 use Rattle.machine.specs.Machine.{stepUnder}
 use Rattle.machine.specs.Agreement.{Same}

@@ -10,7 +10,7 @@ use lib.Dec.{T as So, eqb, eqb→eq, eqb-refl, not-T}
 use lib.ListN.{length, getD, List·getD-eq-default}
 use lib.Ieee.Fits.{and-i, and-l, and-r}
 use lib.Ieee.Bits.{cond-no}
-use Rattle.numerics.specs.NumberForm.{NumberForm}
+use Rattle.numbers.specs.NumberForm.{NumberForm}
 use Rattle.machine.specs.Tables.{Vector, Table, tabulate}
 use Rattle.storage.specs.Views.{Kept}
 

@@ -1,5 +1,5 @@
 -- Document 01's bench table of the definitions, whole, as one finite check: its rows on storage, on pairs and on calls, with the computed lines beside them.
-use Rattle.numerics.specs.PairStep.{PairTable, pairTable}
+use Rattle.numbers.specs.PairStep.{PairTable, pairTable}
 use Rattle.machine.specs.BenchTable.{CallTable, callTable, TrapTable, trapTable}
 use Rattle.machine.specs.Machine as machine
 use Rattle.machine.specs.Solves.{FirstDiagonal, firstDiagonal}

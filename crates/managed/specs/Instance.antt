@@ -1,7 +1,7 @@
 -- An instance is a state with the storage and workspaces lent to its calls; its view is what the plain machine has of it.
 use mathlib.Core.List.{List}
 use Prim.Native.Nat.{ℕ}
-use Rattle.numerics.specs.NumberForm.{NumberForm}
+use Rattle.numbers.specs.NumberForm.{NumberForm}
 use Rattle.machine.specs.Tables.{State}
 use Rattle.storage.specs.Views.{viewL, viewU}
 

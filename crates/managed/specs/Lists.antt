@@ -6,7 +6,7 @@ use mathlib.Core.Option.{none}
 use Prim.Native.Nat.{ℕ, _+_, _≤_}
 use lib.Dec.{T as So}
 use lib.ListN.{length}
-use Rattle.numerics.specs.NumberForm.{NumberForm}
+use Rattle.numbers.specs.NumberForm.{NumberForm}
 use Rattle.machine.specs.Tables.{State}
 use Rattle.machine.specs.Calls.{Call, Answer, Result, isPush, isUpdate}
 use Rattle.machine.specs.Machine.{run}

@@ -8,7 +8,7 @@ use Prim.Native.Nat.{ℕ, _+_, _^_}
 use lib.Dec.{ltb, eqb}
 use lib.ListN.{length, replicate}
 use lib.Ieee.{Float, nan, binary64, eq, ofBits}
-use Rattle.numerics.specs.NumberForm.{NumberForm, nearest, ieee, whole}
+use Rattle.numbers.specs.NumberForm.{NumberForm, nearest, ieee, whole}
 use Rattle.machine.specs.Calls.{Call, push, replaceRow, replaceColumn, remove, solve, solveTransposed, Answer, refused, refusedAt, _orElse_, refuseIf, isPush, isUpdate}
 use Rattle.machine.specs.Solves.{diagonals}
 use Rattle.machine.specs.Machine.{refusal}

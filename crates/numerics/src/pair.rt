@@ -1,9 +1,9 @@
 // The pair step of the updates, and its application to a further pair.
 ghost use mathlib.Core.Path.{_≡_};
 ghost use lib.Ieee.{binary64};
-ghost use Rattle.numerics.specs.NumberForm.{ieee};
-ghost use Rattle.numerics.specs.PairStep.{Stepped, first, second};
-ghost use Rattle.numerics.specs.Tolerances.{tinyOf};
+ghost use Rattle.numbers.specs.NumberForm.{ieee};
+ghost use Rattle.numbers.specs.PairStep.{Stepped, first, second};
+ghost use Rattle.numbers.specs.Tolerances.{tinyOf};
 use crate::real::abs;
 use crate::tolerance::Numerics;
 

@@ -1,7 +1,7 @@
 // Absolute value and finiteness of a double, from its bits. `to_bits` is undefined at a NaN, so both ask for a NaN first.
 ghost use mathlib.Core.Path.{_≡_};
 ghost use lib.Ieee.Scale.{finite};
-ghost use Rattle.numerics.specs.NumberForm.{absolute};
+ghost use Rattle.numbers.specs.NumberForm.{absolute};
 
 // |x|: the sign's bit is cleared. A NaN comes back as it is.
 pub fn abs(x: f64) -> f64

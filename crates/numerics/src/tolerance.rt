@@ -1,7 +1,7 @@
 // The tolerances of the two interfaces.
 ghost use mathlib.Core.Path.{_≡_};
 ghost use lib.Ieee.{binary64};
-ghost use Rattle.numerics.specs.Tolerances.{managedEpsilon, zeroBasedEpsilon, updateTiny};
+ghost use Rattle.numbers.specs.Tolerances.{managedEpsilon, zeroBasedEpsilon, updateTiny};
 
 // E, and the factor that makes T of it.
 pub struct Numerics {

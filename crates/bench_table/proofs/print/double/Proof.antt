@@ -1,6 +1,6 @@
 -- `double`: past its first test x is a number, so it has bits.
 use borrow.Author.Needs.{needs}
-use Rattle.numerics.proofs.FromBits.{is-number}
+use Rattle.numbers.proofs.FromBits.{is-number}
 use Rattle.bench_table.proofs.print.double.Statement.{statement}
 use Rattle.bench_table.proofs.print.double.Tie as tie
 

@@ -3,9 +3,9 @@ use mathlib.Core.Path.{_≡_}
 use mathlib.Core.Logic.{⊎-elim}
 use lib.Ieee.{binary64, ne}
 use borrow.Author.Tests.{not-true, not-false}
-use Rattle.numerics.specs.NumberForm.{ieee}
-use Rattle.numerics.specs.PairStep.{first}
-use Rattle.numerics.proofs.Branches.{exchanged, kept, added, not-added}
+use Rattle.numbers.specs.NumberForm.{ieee}
+use Rattle.numbers.specs.PairStep.{first}
+use Rattle.numbers.proofs.Branches.{exchanged, kept, added, not-added}
 use Rattle.numerics.proofs.pair.apply_pair.Statement.{statement}
 use Rattle.numerics.proofs.pair.apply_pair.Tie as tie
 

@@ -1,12 +1,9 @@
 -- `elementary`: each way through its tests is a law of Branches, and the bound follows from the step.
 use borrow.Author.Needs.{needs}
-use mathlib.Core.Path.{_≡_, refl, sym, subst}
-use mathlib.Core.Bool.{Bool}
 use lib.Ieee.{Float, binary64, mul}
-use Rattle.numerics.specs.NumberForm.{ieee, zeroOf}
-use Rattle.numerics.specs.PairStep.{Step, stepOf, pairStep, Stepped, Within}
-use Rattle.numerics.proofs.Bound.{multiplier-within}
-use Rattle.numerics.proofs.Branches.{first-tiny, first-large, second-tiny, second-large}
+use Rattle.numbers.specs.NumberForm.{ieee}
+use Rattle.numbers.proofs.Bound.{stepped}
+use Rattle.numbers.proofs.Branches.{first-tiny, first-large, second-tiny, second-large}
 use Rattle.numerics.proofs.pair.elementary.Statement.{statement}
 use Rattle.numerics.proofs.pair.elementary.Tie as tie
 
@@ -17,42 +14,38 @@ abs-requires-2 : tie.Need-abs-requires-2
 abs-requires-2 c κs = search needs
 
 -- the place where both absolute values are known: the values there, and T
-abbrev first : tie.After-abs2 → Float
-first c = c .before .before .before .args .x .now
+abbrev x : tie.After-abs2 → Float
+x c = c .before .before .before .args .x .now
 
-abbrev second : tie.After-abs2 → Float
-second c = c .before .before .before .args .y .now
+abbrev y : tie.After-abs2 → Float
+y c = c .before .before .before .args .y .now
 
 abbrev tiny : tie.After-abs2 → Float
 tiny c = mul binary64 (c .before .before .before .args .numerics .epsilon) (c .before .before .before .args .numerics .«update_tiny»)
 
-stepped : (c : tie.After-abs2) (x : Float) (swap : Bool) (m : Float) → stepOf x swap m ≡ pairStep (ieee binary64) (tiny c) (first c) (second c)
-    → Stepped binary64 (tiny c) (first c) (second c) x (zeroOf binary64) swap m
-stepped c x swap m e = record {
-  step = e;
-  cleared = refl;
-  bounded = λ p q g. subst (λ (s : Step Float). Within (s .multiplier)) (sym e) (multiplier-within binary64 (tiny c) (first c) (second c) p q g);
-}
-
 returns : tie.Need-returns
 returns c =
     let m = c .before .before in
-    stepped m _ _ _ (first-tiny (ieee binary64) (tiny m) (first m) (second m) _ _ (m .before .abs .ensures) (m .abs2 .ensures) (c .before .if1 .taken) (c .if2 .taken))
+    stepped binary64 (tiny m) (x m) (y m) _ _ _
+    (first-tiny (ieee binary64) (tiny m) (x m) (y m) _ _ (m .before .abs .ensures) (m .abs2 .ensures) (c .before .if1 .taken) (c .if2 .taken))
 
 returns-2 : tie.Need-returns-2
 returns-2 c =
     let m = c .before .before in
-    stepped m _ _ _ (first-large (ieee binary64) (tiny m) (first m) (second m) _ _ (m .before .abs .ensures) (m .abs2 .ensures) (c .before .if1 .taken) (c .if2 .left))
+    stepped binary64 (tiny m) (x m) (y m) _ _ _
+    (first-large (ieee binary64) (tiny m) (x m) (y m) _ _ (m .before .abs .ensures) (m .abs2 .ensures) (c .before .if1 .taken) (c .if2 .left))
 
 returns-3 : tie.Need-returns-3
 returns-3 c =
     let m = c .before .before in
-    stepped m _ _ _ (second-tiny (ieee binary64) (tiny m) (first m) (second m) _ _ (m .before .abs .ensures) (m .abs2 .ensures) (c .before .if1 .left) (c .if3 .taken))
+    stepped binary64 (tiny m) (x m) (y m) _ _ _
+    (second-tiny (ieee binary64) (tiny m) (x m) (y m) _ _ (m .before .abs .ensures) (m .abs2 .ensures) (c .before .if1 .left) (c .if3 .taken))
 
 returns-4 : tie.Need-returns-4
 returns-4 c =
     let m = c .before .before in
-    stepped m _ _ _ (second-large (ieee binary64) (tiny m) (first m) (second m) _ _ (m .before .abs .ensures) (m .abs2 .ensures) (c .before .if1 .left) (c .if3 .left))
+    stepped binary64 (tiny m) (x m) (y m) _ _ _
+    (second-large (ieee binary64) (tiny m) (x m) (y m) _ _ (m .before .abs .ensures) (m .abs2 .ensures) (c .before .if1 .left) (c .if3 .left))
 
 pub elementary-spec : {M : Type 1} → statement M
 elementary-spec = tie.close (tie.spec abs-requires abs-requires-2 returns returns-2 returns-3 returns-4)

@@ -2,7 +2,7 @@
 use mathlib.Core.Path.{sym, subst}
 use lib.Dec.{T}
 use lib.Ieee.{binary64, fits}
-use Rattle.numerics.proofs.FromBits.{absolute-of-bits, absolute-bits-number, nan-absolute, is-number}
+use Rattle.numbers.proofs.FromBits.{absolute-of-bits, absolute-bits-number, nan-absolute, is-number}
 use Rattle.numerics.proofs.real.abs.Statement.{statement}
 use Rattle.numerics.proofs.real.abs.Tie as tie
 

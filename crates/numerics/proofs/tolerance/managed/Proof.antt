@@ -1,7 +1,7 @@
 -- `managed`: the definitions' fractions are rounded, and the literals' bits read.
 use mathlib.Core.Path.{refl}
 use lib.Ieee.{ofBits}
-use Rattle.numerics.specs.Tolerances.{managedEpsilon, updateTiny}
+use Rattle.numbers.specs.Tolerances.{managedEpsilon, updateTiny}
 use Rattle.numerics.proofs.tolerance.managed.Statement.{statement}
 use Rattle.numerics.proofs.tolerance.managed.Tie as tie
 

@@ -1,7 +1,7 @@
 -- `zero_based`: the definitions' fractions are rounded, and the literals' bits read.
 use mathlib.Core.Path.{refl}
 use lib.Ieee.{ofBits}
-use Rattle.numerics.specs.Tolerances.{zeroBasedEpsilon, updateTiny}
+use Rattle.numbers.specs.Tolerances.{zeroBasedEpsilon, updateTiny}
 use Rattle.numerics.proofs.tolerance.zero_based.Statement.{statement}
 use Rattle.numerics.proofs.tolerance.zero_based.Tie as tie
 

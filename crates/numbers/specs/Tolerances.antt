@@ -1,7 +1,7 @@
 -- The tolerances E and T of both interfaces. Each constant is the value of its format nearest to a fraction.
 use Prim.Native.Nat.{_^_}
 use lib.Ieee.{Float, Format, binary32, binary64, mul}
-use Rattle.numerics.specs.NumberForm.{nearest}
+use Rattle.numbers.specs.NumberForm.{nearest}
 
 -- E of the managed interface: 2^-52, and 2^-23 in single precision
 unfoldable pub managedEpsilon : Format → Float

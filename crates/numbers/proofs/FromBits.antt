@@ -11,7 +11,7 @@ use lib.Ieee.{Float, nan, inf, fin, Format, binary32, binary64, prec, low, odd, 
 use lib.Ieee.Bits.{is-false, ofBits-toBits, nanBits-is}
 use lib.Ieee.Scale.{finite}
 use lib.Ieee.Compare.{differs-from-itself, nan-differs}
-use Rattle.numerics.specs.NumberForm.{absolute}
+use Rattle.numbers.specs.NumberForm.{absolute}
 
 pub odd-absolute : (d : ℕ) (s : Bool) (q k l : ℕ) → absolute (odd d s q k l) ≡ odd d false q k l
 unfolding odd absolute

@@ -7,8 +7,8 @@ use lib.IntN.{pos, negsuc}
 use lib.Dec.{T}
 use lib.Ieee.{Float, nan, inf, fin, Format, binary32, binary64, neg, add, mul, div, le, eq, ofBits}
 use lib.Ieee.Scale.{finite}
-use Rattle.numerics.specs.NumberForm.{NumberForm, nearest, absolute, zeroOf, oneOf, ieee, double, whole}
-use Rattle.numerics.specs.Tolerances.{managedEpsilon, zeroBasedEpsilon, updateTiny, managedTiny, zeroBasedTiny}
+use Rattle.numbers.specs.NumberForm.{NumberForm, nearest, absolute, zeroOf, oneOf, ieee, double, whole}
+use Rattle.numbers.specs.Tolerances.{managedEpsilon, zeroBasedEpsilon, updateTiny, managedTiny, zeroBasedTiny}
 
 -- what a pair step gives: the new x, swap and the multiplier m. The new y is always +0
 pub record Step (A : Type 0) : Type 0 where

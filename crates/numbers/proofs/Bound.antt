@@ -14,10 +14,10 @@ use lib.Ieee.Bits.{cond-no}
 use lib.Ieee.Order.{round-mono}
 use lib.Ieee.Positive.{first-pos}
 use lib.Ieee.Scale.{finite}
-use Rattle.numerics.specs.NumberForm.{absolute, zeroOf, ieee}
-use Rattle.numerics.specs.PairStep.{Step, pairStep, Within}
-use Rattle.numerics.specs.Tolerances.{managedEpsilon, zeroBasedEpsilon, updateTiny, managedTiny, zeroBasedTiny}
-use Rattle.numerics.proofs.FromBits.{odd-absolute, cond-absolute}
+use Rattle.numbers.specs.NumberForm.{absolute, zeroOf, ieee}
+use Rattle.numbers.specs.PairStep.{Step, stepOf, pairStep, Within, Stepped}
+use Rattle.numbers.specs.Tolerances.{managedEpsilon, zeroBasedEpsilon, updateTiny, managedTiny, zeroBasedTiny}
+use Rattle.numbers.proofs.FromBits.{odd-absolute, cond-absolute}
 
 abbrev +0 : Float
 +0 = fin false 0 (pos 0)
@@ -152,6 +152,14 @@ multiplier-within f t (fin s m e) (fin u n d) p q g =
     (λ h k. quotient f (not u) n d s m e (guarded t m e G k) (le→ Y X h))
     (λ h k. zero-within f)
     (λ h k. quotient f (not s) m e u n d (first-pos n (up d) (first-pos (n * up d) (down e) (lt-of-le-of-lt zero-le (gt→ Y X h)))) (le-of-lt (gt→ Y X h)))
+
+-- what has the pair step's result and clears y is what `elementary` promises
+pub stepped : (f : Format) (t x y x′ : Float) (swap : Bool) (m : Float) → stepOf x′ swap m ≡ pairStep (ieee f) t x y → Stepped f t x y x′ (zeroOf f) swap m
+stepped f t x y x′ swap m e = record {
+  step = e;
+  cleared = refl;
+  bounded = λ p q g. subst (λ (s : Step Float). Within (s .multiplier)) (sym e) (multiplier-within f t x y p q g);
+}
 
 -- ---- for the tolerances of either interface nothing is asked of T
 

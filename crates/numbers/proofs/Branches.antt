@@ -1,8 +1,8 @@
 -- The pair step and its application along each way through the code's tests, over any number form.
 use mathlib.Core.Path.{_≡_, refl}
 use mathlib.Core.Bool.{Bool, true, false}
-use Rattle.numerics.specs.NumberForm.{NumberForm}
-use Rattle.numerics.specs.PairStep.{stepOf, pairStep, first, second}
+use Rattle.numbers.specs.NumberForm.{NumberForm}
+use Rattle.numbers.specs.PairStep.{stepOf, pairStep, first, second}
 
 module _ (N : NumberForm) where
   open NumberForm N using (Value, zero as 𝟎, neg, add, mul, div, abs, le, isZero)
