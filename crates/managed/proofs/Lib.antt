@@ -4,4 +4,4 @@ pub mod Refused
 pub mod Accepted
 pub mod ListClaim
 pub mod Writing
-pub mod Existence
+pub mod Satisfiable
