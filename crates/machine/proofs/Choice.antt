@@ -4,8 +4,8 @@ use mathlib.Core.Bool.{Bool, true, false, not, _&&_, cond}
 use mathlib.Core.List.{_∷_}
 use Prim.Native.Nat.{ℕ, zero, suc, _≤_, _<_}
 use native.Mathlib.Omega.{arith}
-use lib.Dec.{T as So, leb, ltb, eqb, ltb→lt, leb→le, T-not, eqb-refl}
-use lib.Ieee.Fits.{and-l, and-r}
+use lib.Dec.{T as So, leb, ltb, eqb, ltb→lt, leb→le, T-not}
+use lib.Ieee.Fits.{eq→eqb, and-l, and-r}
 use Rattle.machine.specs.Tables.{Vector, State, Work, stateOf, tabulate}
 use Rattle.machine.specs.Calls.{Result}
 use Rattle.machine.specs.Agreement.{Agree, Same, AgreeWithin}
@@ -13,7 +13,7 @@ use Rattle.machine.specs.Agreement.{Agree, Same, AgreeWithin}
 -- ---- tests
 
 pub neqb→ne : (a b : ℕ) → So (not (eqb a b)) → a ≡ b → ⊥
-neqb→ne a b s e = T-not (eqb a b) s (subst (λ (c : ℕ). So (eqb a c)) e (eqb-refl a))
+neqb→ne a b s e = T-not (eqb a b) s (eq→eqb e)
 
 pub in-range : (a b j : ℕ) → So (leb a j && ltb j b) → (a ≤ j) × (j < b)
 in-range a b j s = (leb→le a j (and-l (leb a j) (ltb j b) s), ltb→lt j b (and-r (leb a j) (ltb j b) s))

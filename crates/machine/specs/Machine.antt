@@ -6,12 +6,12 @@ use mathlib.Core.List.{List, [], _∷_}
 use mathlib.Core.Option.{Option, none, some}
 use Prim.Native.Nat.{suc, _-_}
 use lib.Dec.{leb, eqb}
-use lib.ListN.{length, getD}
-use lib.Ieee.{Float, nan, binary64, neg, eq, ofBits}
+use lib.ListN.{length}
+use lib.Ieee.{Float, nan, binary64, eq, ofBits}
 use Rattle.numbers.specs.NumberForm.{NumberForm, nearest, ieee, whole}
 use Rattle.machine.specs.Tables.{State, stateOf}
 use Rattle.machine.specs.Updates.{pushed, columnReplaced, rowReplaced, removed}
-use Rattle.machine.specs.Solves.{solution, solutionTransposed, diagonals}
+use Rattle.machine.specs.Solves.{solution, solutionTransposed, diagonals, diagonal}
 use Rattle.machine.specs.Calls.{Call, push, replaceRow, replaceColumn, remove, solve, solveTransposed, Answer, done, moved, refused, Result, _orElse_, refuseIf, given}
 
 module _ (N : NumberForm) where
@@ -63,15 +63,15 @@ module _ (N : NumberForm) (E T : N .Value) where
 -- ---- the order of the refusals, computed
 
 -- dimension 3 with that diagonal; no refusal reads anything else
-diagonal : Float → Float → Float → State Float
-diagonal a b c = record { n = 3; L = λ i j. nan; U = λ i j. getD (a ∷ b ∷ c ∷ []) i nan }
+withDiagonal : Float → Float → Float → State Float
+withDiagonal a b c = record { n = 3; L = λ i j. nan; U = diagonal a b c }
 
 refuses : State Float → Call Float → Option Answer
 refuses = refusal (ieee binary64)
 
 sound : State Float
-unfolding diagonal
-sound = diagonal (whole 1) (whole 2) (whole 3)
+unfolding withDiagonal
+sound = withDiagonal (whole 1) (whole 2) (whole 3)
 
 ones : List Float
 ones = whole 1 ∷ whole 1 ∷ whole 1 ∷ []
@@ -90,11 +90,11 @@ pub record RefusalOrder : Type 0 where
   remove-row-first : refuses sound (remove 3 3) ≡ some (refused 5)
   remove-column : refuses sound (remove 2 3) ≡ some (refused 6)
   solve-accepted : refuses sound (solve ones) ≡ none
-  solve-length-first : refuses (diagonal (whole 0) nan nan) (solve []) ≡ some (refused 7)
-  transposed-length-first : refuses (diagonal (whole 0) nan nan) (solveTransposed []) ≡ some (refused 7)
+  solve-length-first : refuses (withDiagonal (whole 0) nan nan) (solve []) ≡ some (refused 7)
+  transposed-length-first : refuses (withDiagonal (whole 0) nan nan) (solveTransposed []) ≡ some (refused 7)
 
 pub refusalOrder : RefusalOrder
-unfolding refuses refusal diagonals diagonal sound ones nearest neg eq ofBits
+unfolding refuses refusal diagonals withDiagonal sound ones nearest eq ofBits
 refusalOrder = record {
   push-accepted = refl;
   push-row = refl;

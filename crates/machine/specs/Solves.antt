@@ -55,11 +55,10 @@ module _ (N : NumberForm) where
 -- ---- the first bad diagonal is named, computed
 
 -- U with that diagonal; nothing else is read
-diagonal : Float → Float → Float → Table Float
+abbrev pub diagonal : Float → Float → Float → Table Float
 diagonal a b c i j = getD (a ∷ b ∷ c ∷ []) i nan
 
 found : Float → Float → Float → Option Answer
-unfolding diagonal
 found a b c = diagonals (ieee binary64) (diagonal a b c) 3
 
 pub record FirstDiagonal : Type 0 where

@@ -73,6 +73,6 @@ module _ (N : NumberForm) (E T : N .Value) where
   pub list-claim : (cs : List (Call Value)) (S S₁ S₂ : State Value) (capacity₁ capacity₂ : ℕ) (es₁ es₂ : List (Event Value))
       → Setting N E T cs S S₁ S₂ capacity₁ capacity₂ es₁ es₂ → Claim N E T cs S es₁ es₂
   list-claim cs S S₁ S₂ capacity₁ capacity₂ es₁ es₂ h =
-      let f₁ = trace-same capacity₁ (S .n + pushes cs) S S₁ cs es₁ (h .start₁) (omega arith) (h .room₁) (h .trace₁) in
-      let f₂ = trace-same capacity₂ (S .n + pushes cs) S S₂ cs es₂ (h .start₂) (omega arith) (h .room₂) (h .trace₂) in
+      let f₁ = trace-same capacity₁ (S .n + pushes cs) S S₁ cs es₁ (h .start₁) (omega arith) (omega (arith, h .room₁)) (h .trace₁) in
+      let f₂ = trace-same capacity₂ (S .n + pushes cs) S S₂ cs es₂ (h .start₂) (omega arith) (omega (arith, h .room₂)) (h .trace₂) in
       record { first = f₁; second = f₂; both = all-same-join (run N E T S cs) (results N es₁) (results N es₂) f₁ f₂ }

@@ -106,11 +106,13 @@ pub record RefusalOrder : Type 0 where
   row-eight : refuses bare (replaceRow 0 one) ≡ some (refused 8)
   row-accepted : refuses narrow (replaceRow 0 one) ≡ none
   -- replace column: 6, 7, 8
+  column-three-before-six : refuses (lent (whole 1) 1 2 6 3 2 1 2) (replaceColumn 1 []) ≡ some (refused 3)
   column-six-before-seven : refuses bare (replaceColumn 1 []) ≡ some (refused 6)
   column-seven-before-eight : refuses bare (replaceColumn 0 []) ≡ some (refused 7)
   column-eight : refuses bare (replaceColumn 0 one) ≡ some (refused 8)
   column-accepted : refuses narrow (replaceColumn 0 one) ≡ none
   -- remove: 5, 6, 8
+  remove-three-before-five : refuses (lent (whole 1) 1 2 6 3 2 1 2) (remove 1 1) ≡ some (refused 3)
   remove-five-before-six : refuses bare (remove 1 1) ≡ some (refused 5)
   remove-six-before-eight : refuses bare (remove 0 1) ≡ some (refused 6)
   remove-eight : refuses bare (remove 0 0) ≡ some (refused 8)
@@ -119,6 +121,8 @@ pub record RefusalOrder : Type 0 where
   solve-three-before-seven : refuses (lent (whole 1) 1 2 5 3 0 0 0) (solve []) ≡ some (refused 3)
   solve-seven-before-nine : refuses (lent (whole 0) 1 2 6 3 0 0 0) (solve []) ≡ some (refused 7)
   solve-nine : refuses (lent (whole 0) 1 2 6 3 0 0 0) (solve one) ≡ some (refusedAt 9 0)
+  transposed-three-before-seven : refuses (lent (whole 1) 1 2 5 3 0 0 0) (solveTransposed []) ≡ some (refused 3)
+  transposed-seven-before-ten : refuses (lent nan 1 2 6 3 0 0 0) (solveTransposed []) ≡ some (refused 7)
   transposed-ten : refuses (lent nan 1 2 6 3 0 0 0) (solveTransposed one) ≡ some (refusedAt 10 0)
   solve-accepted : refuses (lent (whole 1) 1 2 6 3 0 1 2) (solve one) ≡ none
 
@@ -141,10 +145,12 @@ refusalOrder = record {
   row-seven-before-eight = refl;
   row-eight = refl;
   row-accepted = refl;
+  column-three-before-six = refl;
   column-six-before-seven = refl;
   column-seven-before-eight = refl;
   column-eight = refl;
   column-accepted = refl;
+  remove-three-before-five = refl;
   remove-five-before-six = refl;
   remove-six-before-eight = refl;
   remove-eight = refl;
@@ -152,6 +158,8 @@ refusalOrder = record {
   solve-three-before-seven = refl;
   solve-seven-before-nine = refl;
   solve-nine = refl;
+  transposed-three-before-seven = refl;
+  transposed-seven-before-ten = refl;
   transposed-ten = refl;
   solve-accepted = refl;
 }

@@ -33,7 +33,7 @@ fields-absolute f s (suc x) t =
 same : (f : Format) {s s' : Bool} {x x' t t' : ℕ} → s ≡ s' → x ≡ x' → t ≡ t' → ofFields f s x t ≡ ofFields f s' x' t'
 same f p q r = cc
 
-pub unsigned : (f : Format) (b : ℕ) → ofBits f (b % top f) ≡ absolute (ofBits f b)
+unsigned : (f : Format) (b : ℕ) → ofBits f (b % top f) ≡ absolute (ofBits f b)
 unfolding ofBits
 unsigned f b =
     same f (is-false (leb (top f) (b % top f)) (lt→nleb (top f) (b % top f) (mod-lt b (mul-pos (pow-pos (prec f - 1)) (zero-lt-suc (ones f))))))

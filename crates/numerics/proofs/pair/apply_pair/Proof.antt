@@ -1,11 +1,12 @@
 -- `apply_pair`: each way through its two tests is a law of Branches.
 use mathlib.Core.Path.{_≡_}
+use mathlib.Core.Bool.{true, false}
 use mathlib.Core.Logic.{⊎-elim}
 use lib.Ieee.{binary64, ne}
 use borrow.Author.Tests.{not-true, not-false}
 use Rattle.numbers.specs.NumberForm.{ieee}
 use Rattle.numbers.specs.PairStep.{first}
-use Rattle.numbers.proofs.Branches.{exchanged, kept, added, not-added}
+use Rattle.numbers.proofs.Branches.{met-after, added, not-added}
 use Rattle.numerics.proofs.pair.apply_pair.Statement.{statement}
 use Rattle.numerics.proofs.pair.apply_pair.Tie as tie
 
@@ -13,7 +14,7 @@ use Rattle.numerics.proofs.pair.apply_pair.Tie as tie
 met : (c : tie.Joined1) → (c .if1 .x ≡ first (ieee binary64) (c .before .args .transform .swap) (c .before .args .x .now) (c .before .args .y .now))
     × (c .if1 .y ≡ first (ieee binary64) (c .before .args .transform .swap) (c .before .args .y .now) (c .before .args .x .now))
 met c =
-    ⊎-elim (λ w. exchanged (ieee binary64) _ _ _ _ _ (w .0 .taken) (w .1) (w .2)) (λ w. kept (ieee binary64) _ _ _ _ _ (w .0 .left) (w .1) (w .2)) (c .if1 .came)
+    ⊎-elim (λ w. met-after (ieee binary64) _ true _ _ _ _ (w .0 .taken) (w .1) (w .2)) (λ w. met-after (ieee binary64) _ false _ _ _ _ (w .0 .left) (w .1) (w .2)) (c .if1 .came)
 
 returns : tie.Need-returns
 unfolding ne
