@@ -14,7 +14,10 @@ use Rattle.numerics.proofs.pair.apply_pair.Tie as tie
 met : (c : tie.Joined1) → (c .if1 .x ≡ first (ieee binary64) (c .before .args .transform .swap) (c .before .args .x .now) (c .before .args .y .now))
     × (c .if1 .y ≡ first (ieee binary64) (c .before .args .transform .swap) (c .before .args .y .now) (c .before .args .x .now))
 met c =
-    ⊎-elim (λ w. met-after (ieee binary64) _ true _ _ _ _ (w .0 .taken) (w .1) (w .2)) (λ w. met-after (ieee binary64) _ false _ _ _ _ (w .0 .left) (w .1) (w .2)) (c .if1 .came)
+    let a = c .before .args .x .now in
+    let b = c .before .args .y .now in
+    ⊎-elim (λ w. met-after (ieee binary64) _ true a b _ _ (w .0 .taken) (w .1) (w .2)) (λ w. met-after (ieee binary64) _ false a b _ _ (w .0 .left) (w .1) (w .2))
+    (c .if1 .came)
 
 returns : tie.Need-returns
 unfolding ne
