@@ -47,7 +47,7 @@ module _ (N : NumberForm) (E : N .Value) where
 module _ (N : NumberForm) (E T : N .Value) (m columns : ℕ) (hc : columns ≤ m) where
   open NumberForm N using (Value, zero as 𝟎)
 
-  copy-row-same : (selected lo : ℕ) {S R : Work Value} → AgreeWithin m lo columns m S R
+  pub copy-row-same : (selected lo : ℕ) {S R : Work Value} → AgreeWithin m lo columns m S R
       → AgreeWithin m selected columns m (copyRowToDense selected columns S) (copyRowToDense selected columns R)
   unfolding copyRowToDense
   copy-row-same selected lo h = record {
@@ -69,7 +69,7 @@ module _ (N : NumberForm) (E T : N .Value) (m columns : ℕ) (hc : columns ≤ m
     v = h .v;
   }
 
-  backward-transform-same : (selected row : ℕ) {p q : Step Value} {S R : Work Value} → p ≡ q → selected < m → row < m → AgreeWithin m row columns m S R
+  pub backward-transform-same : (selected row : ℕ) {p q : Step Value} {S R : Work Value} → p ≡ q → selected < m → row < m → AgreeWithin m row columns m S R
       → AgreeWithin m row columns m (backwardTransform N selected columns row p S) (backwardTransform N selected columns row q R)
   unfolding backwardTransform
   backward-transform-same selected row {p} {q} {S} {R} e hs hr h = record {
@@ -81,7 +81,7 @@ module _ (N : NumberForm) (E T : N .Value) (m columns : ℕ) (hc : columns ≤ m
     v = λ j hj t. cond (eqb j selected) (e t .x) (cond (eqb j row) 𝟎 (h .v j hj t));
   }
 
-  backward-row-same : (selected row lo : ℕ) {S R : Work Value} → selected < m → row < m → lo ≤ suc row → AgreeWithin m lo columns m S R
+  pub backward-row-same : (selected row lo : ℕ) {S R : Work Value} → selected < m → row < m → lo ≤ suc row → AgreeWithin m lo columns m S R
       → AgreeWithin m row columns m (backwardRow N E T selected columns row S) (backwardRow N E T selected columns row R)
   unfolding backwardRow
   backward-row-same selected row lo {S} {R} hs hr ho h =
@@ -90,7 +90,7 @@ module _ (N : NumberForm) (E T : N .Value) (m columns : ℕ) (hc : columns ≤ m
       let c = clear-dense-same row lo ho h in
       within-cond _ _ (λ t. backwardSkips N E (u t) (x t)) c (backward-transform-same selected row (λ t. pairStep N T (u t) (x t)) hs hr c)
 
-  backward-rows-same : (selected d : ℕ) {S R : Work Value} → selected < m → d ≤ selected → AgreeWithin m selected columns m S R
+  pub backward-rows-same : (selected d : ℕ) {S R : Work Value} → selected < m → d ≤ selected → AgreeWithin m selected columns m S R
       → AgreeWithin m (selected - d) columns m (backwardRows N E T selected columns d S) (backwardRows N E T selected columns d R)
   unfolding backwardRows
   backward-rows-same selected zero hs hd h = within-from (omega arith) h

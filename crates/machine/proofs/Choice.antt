@@ -5,6 +5,7 @@ use mathlib.Core.List.{_∷_}
 use Prim.Native.Nat.{ℕ, zero, suc, _≤_, _<_}
 use native.Mathlib.Omega.{arith}
 use lib.Dec.{T as So, leb, ltb, eqb, ltb→lt, leb→le, T-not}
+use borrow.Author.Tests.{leb-false, ltb-false}
 use lib.Ieee.Fits.{eq→eqb, and-l, and-r}
 use Rattle.machine.specs.Tables.{Vector, State, Work, stateOf, tabulate}
 use Rattle.machine.specs.Calls.{Result}
@@ -21,10 +22,26 @@ in-range a b j s = (leb→le a j (and-l (leb a j) (ltb j b) s), ltb→lt j b (an
 pub in-range-after : (a b j : ℕ) → So (ltb a j && ltb j b) → (a < j) × (j < b)
 in-range-after a b j s = (ltb→lt a j (and-l (ltb a j) (ltb j b) s), ltb→lt j b (and-r (ltb a j) (ltb j b) s))
 
+pub out-of-range : (a b j : ℕ) → So (not (leb a j && ltb j b)) → a ≤ j → b ≤ j
+out-of-range a b j s h = go (leb a j) (ltb j b) refl refl s
+  where
+    go : (p q : Bool) → leb a j ≡ p → ltb j b ≡ q → So (not (p && q)) → b ≤ j
+    go true true e f t = absurd t
+    go true false e f t = ltb-false j b f
+    go false q e f t = absurd (omega (arith, leb-false a j e))
+
+pub out-of-range-after : (a b j : ℕ) → So (not (ltb a j && ltb j b)) → a < j → b ≤ j
+out-of-range-after a b j s h = out-of-range (suc a) b j s h
+
 module _ {A : Type 0} where
   pub choose : (b : Bool) {x x′ y y′ : A} → (So b → x ≡ x′) → (So (not b) → y ≡ y′) → cond b x y ≡ cond b x′ y′
   choose true f g = f tt
   choose false f g = g tt
+
+  -- a value is what a choice makes where it is so on either side
+  pub pick : (b : Bool) {a x y : A} → (So b → a ≡ x) → (So (not b) → a ≡ y) → a ≡ cond b x y
+  pick true f g = f tt
+  pick false f g = g tt
 
   pub tabulate-same : (k : ℕ) (f g : Vector A) → ((i : ℕ) → i < k → f i ≡ g i) → tabulate k f ≡ tabulate k g
   tabulate-same zero f g h = refl
@@ -46,6 +63,21 @@ module _ {A : Type 0} where
 
   pub within-from : {m lo lo′ hi k : ℕ} {S R : Work A} → lo ≤ lo′ → AgreeWithin m lo hi k S R → AgreeWithin m lo′ hi k S R
   within-from l h = record { L = h .L; U = h .U; y = λ j a b. h .y j (omega arith) b; v = h .v }
+
+  -- less is compared
+  pub within-less : {m lo hi k : ℕ} (hi′ k′ : ℕ) {S R : Work A} → hi′ ≤ hi → k′ ≤ k → AgreeWithin m lo hi k S R → AgreeWithin m lo hi′ k′ S R
+  within-less hi′ k′ l l′ h = record { L = h .L; U = h .U; y = λ j a b. h .y j a (omega arith); v = λ j a. h .v j (omega arith) }
+
+  pub within-refl : {m lo hi k : ℕ} {S : Work A} → AgreeWithin m lo hi k S S
+  within-refl = record { L = λ i j a b. refl; U = λ i j a b. refl; y = λ j a b. refl; v = λ j a. refl }
+
+  pub within-trans : {m lo hi k : ℕ} {S R Q : Work A} → AgreeWithin m lo hi k S R → AgreeWithin m lo hi k R Q → AgreeWithin m lo hi k S Q
+  within-trans h g = record {
+    L = λ i j a b. h .L i j a b ∙ g .L i j a b;
+    U = λ i j a b. h .U i j a b ∙ g .U i j a b;
+    y = λ j a b. h .y j a b ∙ g .y j a b;
+    v = λ j a. h .v j a ∙ g .v j a;
+  }
 
   pub within-state : (p : ℕ) {m lo hi k : ℕ} {S R : Work A} → p ≤ m → AgreeWithin m lo hi k S R → Agree (stateOf p S) (stateOf p R)
   within-state p l h = record { n = refl; L = λ i j hi hj. h .L i j (omega arith) (omega arith); U = λ i j hij hj. h .U i j hij (omega arith) }

@@ -42,7 +42,7 @@ module _ (N : NumberForm) (E T : N .Value) (m columns k : ℕ) (hc : columns ≤
     v = h .v;
   }
 
-  forward-row-same : (last row lo : ℕ) {S R : Work Value} → last < m → lo ≤ row → row < columns → AgreeWithin m lo columns k S R
+  pub forward-row-same : (last row lo : ℕ) {S R : Work Value} → last < m → lo ≤ row → row < columns → AgreeWithin m lo columns k S R
       → AgreeWithin m lo columns k (forwardRow N E T last columns row S) (forwardRow N E T last columns row R)
   unfolding forwardRow
   forward-row-same last row lo {S} {R} hl ho hr h =
@@ -57,7 +57,7 @@ module _ (N : NumberForm) (E T : N .Value) (m columns k : ℕ) (hc : columns ≤
   forward-rows-same start last (suc d) hl hk hr h =
       forward-row-same last _ start hl (omega arith) (omega arith) (forward-rows-same start last d hl hk (omega arith) h)
 
-  copy-dense-same : (last lo : ℕ) {S R : Work Value} → lo ≤ last → AgreeWithin m lo columns k S R
+  pub copy-dense-same : (last lo : ℕ) {S R : Work Value} → lo ≤ last → AgreeWithin m lo columns k S R
       → AgreeWithin m lo columns k (copyDenseToRow last columns S) (copyDenseToRow last columns R)
   unfolding copyDenseToRow
   copy-dense-same last lo ho h = record {

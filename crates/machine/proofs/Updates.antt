@@ -23,7 +23,7 @@ module _ (N : NumberForm) (E T : N .Value) where
   -- ---- a column put in place and the triangle restored: replace column, and the first half of remove
 
   module _ (n columns k : ℕ) (hc : columns ≤ n) (hk : k < columns) where
-    put-column-same : {S R : Work Value} → AgreeWithin n columns columns n S R → AgreeWithin n columns columns n (putColumn k S) (putColumn k R)
+    pub put-column-same : {S R : Work Value} → AgreeWithin n columns columns n S R → AgreeWithin n columns columns n (putColumn k S) (putColumn k R)
     unfolding putColumn
     put-column-same h = record {
       L = h .L;
@@ -32,7 +32,7 @@ module _ (N : NumberForm) (E T : N .Value) where
       v = h .v;
     }
 
-    put-selected-same : (selected : ℕ) {S R : Work Value} → selected < n → AgreeWithin n (suc k) columns n S R
+    pub put-selected-same : (selected : ℕ) {S R : Work Value} → selected < n → AgreeWithin n (suc k) columns n S R
         → AgreeWithin n k columns n (putSelected k selected S) (putSelected k selected R)
     unfolding putSelected
     put-selected-same selected hs h = record {
@@ -49,7 +49,7 @@ module _ (N : NumberForm) (E T : N .Value) where
         forward-same N E T n columns n hc k selected hs (omega arith) hm
         (put-selected-same selected hs (backward-same N E T n columns hc (suc k) selected lo hs hl h))
 
-    restored-same : (last lo : ℕ) {S R : Work Value} → suc k ≤ last → last < n → last ≤ columns → AgreeWithin n lo columns n S R
+    pub restored-same : (last lo : ℕ) {S R : Work Value} → suc k ≤ last → last < n → last ≤ columns → AgreeWithin n lo columns n S R
         → AgreeWithin n k columns n (restored N E T k last columns S) (restored N E T k last columns R)
     unfolding restored
     restored-same last lo {S} {R} hl hn hm h =
@@ -68,7 +68,7 @@ module _ (N : NumberForm) (E T : N .Value) where
   first-push L U d = (refl, refl)
 
   module _ (n : ℕ) (L U L′ U′ : Table Value) (hL : (i j : ℕ) → i < n → j < n → L i j ≡ L′ i j) (hU : (i j : ℕ) → i ≤ j → j < n → U i j ≡ U′ i j) where
-    bordered-same : (row column : List Value) (d : Value) → AgreeWithin (suc n) 0 (suc n) (suc n) (bordered N n L U row column d) (bordered N n L′ U′ row column d)
+    pub bordered-same : (row column : List Value) (d : Value) → AgreeWithin (suc n) 0 (suc n) (suc n) (bordered N n L U row column d) (bordered N n L′ U′ row column d)
     unfolding bordered
     bordered-same row column d = record {
       L = λ i j hi hj. choose (eqb i n) (λ _. refl) (λ a. choose (eqb j n) (λ _. refl) (λ b. hL i j (omega (arith, neqb→ne i n a)) (omega (arith, neqb→ne j n b))));
@@ -98,7 +98,7 @@ module _ (N : NumberForm) (E T : N .Value) where
         (λ s. let l = ltb→lt (suc k) n s in within-from (omega arith) (restored-same n n k (omega arith) hk (n - 1) n (omega arith) (omega arith) (omega arith) h))
         (λ _. h)
 
-    column-dropped-same : (k : ℕ) → k < n → AgreeWithin n n (n - 1) n (columnDropped N E T (n - 1) L U k) (columnDropped N E T (n - 1) L′ U′ k)
+    pub column-dropped-same : (k : ℕ) → k < n → AgreeWithin n n (n - 1) n (columnDropped N E T (n - 1) L U k) (columnDropped N E T (n - 1) L′ U′ k)
     unfolding columnDropped
     column-dropped-same k hk =
         let p = n - 1 in
@@ -120,7 +120,7 @@ module _ (N : NumberForm) (E T : N .Value) where
           v = λ j hj. d .L j r hj hr;
         })
 
-    unit-row-same : (s r : ℕ) (row : List Value) (lo : ℕ) {S R : Work Value} → AgreeWithin n lo n n S R → AgreeWithin n 0 n n (unitRow N s r row S) (unitRow N s r row R)
+    pub unit-row-same : (s r : ℕ) (row : List Value) (lo : ℕ) {S R : Work Value} → AgreeWithin n lo n n S R → AgreeWithin n 0 n n (unitRow N s r row S) (unitRow N s r row R)
     unfolding unitRow
     unit-row-same s r row lo h = record {
       L = λ i j hi hj. choose (eqb i s) (λ _. refl) (λ _. h .L i j hi hj);

@@ -10,12 +10,16 @@ use Rattle.storage.proofs.Lengths.{length-fits}
 
 -- ---- L and the solve work behind it
 
+-- a row ends before a later one starts, and the last before the solve work
+pub row-before : (c i p : ℕ) → i < p → i * c + c ≤ p * c
+row-before c i p h = omega (arith, mul-le-mul-right {m = suc i} {n = p} c h)
+
 pub lIndex-within : (c i j : ℕ) → i < c → j < c → lIndex c i j < c * c
-lIndex-within c i j hi hj = omega (arith, mul-le-mul-right {m = suc i} {n = c} c hi)
+lIndex-within c i j hi hj = omega (arith, row-before c i c hi)
 
 -- a whole row of L, with what may be added to it
 pub row-fits : (c i : ℕ) → i < c → c < 2 ^ 32 → i * c + c < 2 ^ 64
-row-fits c i hi hc = omega (arith, mul-le-mul-right {m = suc i} {n = c} c hi, length-fits c hc)
+row-fits c i hi hc = omega (arith, row-before c i c hi, length-fits c hc)
 
 pub workIndex-within : (c i : ℕ) → i < c → workIndex c i < lLength c
 workIndex-within c i hi = omega arith
@@ -25,7 +29,7 @@ lIndex-not-work c i j k hi hj e = omega (arith, lIndex-within c i j hi hj)
 
 -- a pair of rows in order gives places in order
 lIndex-rising : (c i j p q : ℕ) → i < p → j < c → lIndex c i j < lIndex c p q
-lIndex-rising c i j p q h hj = omega (arith, mul-le-mul-right {m = suc i} {n = p} c h)
+lIndex-rising c i j p q h hj = omega (arith, row-before c i p h)
 
 -- Two indices are equal where neither can be below the other.
 same-row : (i p : ℕ) → (i < p → ⊥) → (p < i → ⊥) → i ≡ p
@@ -89,6 +93,10 @@ uIndex-row-0 c j = omega arith
 pub uIndex-is : (c i j : ℕ) → i ≤ j → j < c → uIndex c i j ≡ rowStart c i + (j - i)
 unfolding rowStart uIndex
 uIndex-is c i j h k = omega (arith, triangle-le c i (omega arith))
+
+-- the entries of a row stand one after the other
+pub uIndex-along : (c i j k : ℕ) → i ≤ j → j + k < c → uIndex c i (j + k) ≡ uIndex c i j + k
+uIndex-along c i j k h l = omega (arith, uIndex-is c i j h (omega arith), uIndex-is c i (j + k) (omega arith) l)
 
 pub uIndex-within : (c i j : ℕ) → i ≤ j → j < c → uIndex c i j < uLength c
 uIndex-within c i j h k = omega (arith, uIndex-is c i j h k, row-behind c i c (omega arith) (omega arith), rows-end c)

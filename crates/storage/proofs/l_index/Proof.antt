@@ -1,8 +1,9 @@
 -- `l_index`: the place lies within L, whose length fits.
 use borrow.Author.Needs.{needs}
 use native.Mathlib.Omega.{arith}
+use mathlib.Core.Path.{refl}
 use Prim.Native.Nat.{_+_, _*_, _^_, _<_}
-use Rattle.storage.proofs.Places.{row-fits}
+use Rattle.storage.proofs.Places.{row-fits, lIndex-within}
 use Rattle.storage.proofs.l_index.Statement.{statement}
 use Rattle.storage.proofs.l_index.Tie as tie
 
@@ -16,7 +17,7 @@ add-result : tie.Need-add-result
 add-result c = omega (arith, fits c)
 
 returns : tie.Need-returns
-returns c = search needs
+returns c = (refl, lIndex-within (c .args .capacity) (c .args .row) (c .args .column) (search needs) (search needs))
 
 pub l-index-spec : {M : Type 1} → statement M
 l-index-spec = tie.close (tie.spec mul-result add-result returns)

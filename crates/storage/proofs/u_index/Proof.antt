@@ -1,10 +1,10 @@
 -- `u_index`: row 0 apart, the code computes the definition step by step.
 use borrow.Author.Needs.{needs}
 use native.Mathlib.Omega.{arith}
-use mathlib.Core.Path.{refl}
+use mathlib.Core.Path.{_≡_, refl}
 use Prim.Native.Nat.{_+_, _-_, _*_, _^_, _≤_, _<_}
-use Rattle.storage.specs.Places.{uIndex}
-use Rattle.storage.proofs.Places.{row-fits, triangle-le, uIndex-row-0}
+use Rattle.storage.specs.Places.{uLength, uIndex}
+use Rattle.storage.proofs.Places.{row-fits, triangle-le, uIndex-row-0, uIndex-within}
 use Rattle.storage.proofs.u_index.Statement.{statement}
 use Rattle.storage.proofs.u_index.Tie as tie
 
@@ -15,8 +15,13 @@ fits c = row-fits (c .args .capacity) (c .args .row) (omega arith) (search needs
 below : (c : tie.Start) → c .args .row * (c .args .row - 1) ≤ c .args .row * c .args .capacity
 below c = triangle-le (c .args .capacity) (c .args .row) (omega arith)
 
+within : (c : tie.Start) → uIndex (c .args .capacity) (c .args .row) (c .args .column) < uLength (c .args .capacity)
+within c = uIndex-within (c .args .capacity) (c .args .row) (c .args .column) (search needs) (search needs)
+
 returns : tie.Need-returns
-returns c = rw (c .if1 .taken, uIndex-row-0)
+returns c =
+    let e : c .before .args .column ≡ uIndex (c .before .args .capacity) (c .before .args .row) (c .before .args .column) = rw (c .if1 .taken, uIndex-row-0) in
+    (e, omega (arith, within (c .before)))
 
 mul-result : tie.Need-mul-result
 mul-result c = omega (arith, fits (c .before))
@@ -38,7 +43,7 @@ sub-result-3 c = search needs
 
 returns-2 : tie.Need-returns-2
 unfolding uIndex
-returns-2 c = refl
+returns-2 c = (refl, within (c .before))
 
 pub u-index-spec : {M : Type 1} → statement M
 u-index-spec = tie.close (tie.spec returns mul-result sub-result mul-result-2 sub-result-2 add-result sub-result-3 returns-2)

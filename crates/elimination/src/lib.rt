@@ -1,0 +1,3 @@
+// Forward and Backward: eliminations by pair steps, on factors in lent slices.
+pub mod backward;
+pub mod forward;
