@@ -4,6 +4,7 @@ use mathlib.Core.Bool.{Bool, true, false, not, _&&_, cond}
 use mathlib.Core.List.{_∷_}
 use Prim.Native.Nat.{ℕ, zero, suc, _≤_, _<_}
 use native.Mathlib.Omega.{arith}
+use lib.ListN.{length, getD}
 use lib.Dec.{T as So, leb, ltb, eqb, ltb→lt, leb→le, T-not}
 use borrow.Author.Tests.{leb-false, ltb-false}
 use lib.Ieee.Fits.{eq→eqb, and-l, and-r}
@@ -47,6 +48,15 @@ module _ {A : Type 0} where
   tabulate-same zero f g h = refl
   tabulate-same (suc k) f g h =
       λ i. h zero (omega arith) i ∷ tabulate-same k (λ a. f (suc a)) (λ a. g (suc a)) (λ a l. h (suc a) (omega arith)) i
+
+  pub tabulate-length : (k : ℕ) (f : Vector A) → length (tabulate k f) ≡ k
+  tabulate-length zero f = refl
+  tabulate-length (suc k) f = λ i. suc (tabulate-length k (λ a. f (suc a)) i)
+
+  pub tabulate-at : (k : ℕ) (f : Vector A) (d : A) (i : ℕ) → i < k → getD (tabulate k f) i d ≡ f i
+  tabulate-at zero f d i h = absurd (omega arith)
+  tabulate-at (suc k) f d zero h = refl
+  tabulate-at (suc k) f d (suc i) h = tabulate-at k (λ a. f (suc a)) d i (omega arith)
 
   -- ---- agreement of works
 

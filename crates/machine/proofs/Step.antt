@@ -45,13 +45,13 @@ module _ (N : NumberForm) (E T : N .Value) where
     accepted-same : (c : Call Value) → refusal N S c ≡ none → Same (accepted N E T S c) (accepted N E T R c)
     unfolding accepted refusal
     accepted-same (push row column d) e =
-        record { answer = refl; solved = refl; after = within-state (suc n) (omega arith) (pushed-same N E T n L U L′ U′ hL hU row column d) }
+        record { answer = refl; solved = refl; after = within-state (suc n) (omega arith) (pushed-same N E T n L U L′ U′ hL hU row row column column d (λ j a. refl) (λ j a. refl)) }
     accepted-same (replaceRow r row) e =
         let h = index-below r 5 (or-else-none _ _ e .0) in
-        record { answer = refl; solved = refl; after = within-state n (omega arith) (row-replaced-same N E T n L U L′ U′ hL hU r row h) }
+        record { answer = refl; solved = refl; after = within-state n (omega arith) (row-replaced-same N E T n L U L′ U′ hL hU r row row h (λ j a. refl)) }
     accepted-same (replaceColumn k column) e =
         let h = index-below k 6 (or-else-none _ _ e .0) in
-        record { answer = refl; solved = refl; after = within-state n (omega arith) (column-replaced-same N E T n L U L′ U′ hL hU k column h) }
+        record { answer = refl; solved = refl; after = within-state n (omega arith) (column-replaced-same N E T n L U L′ U′ hL hU k column column h (λ j a. refl)) }
     accepted-same (remove r k) e =
         let o = or-else-none _ _ e in
         let h = removed-same N E T n L U L′ U′ hL hU r k (index-below r 5 (o .0)) (index-below k 6 (o .1)) in
@@ -72,3 +72,8 @@ module _ (N : NumberForm) (E T : N .Value) where
   step-same S R c h =
       subst (λ (n : ℕ). Same (step N E T S c) (step N E T (record { n = n; L = R .L; U = R .U }) c)) (h .n)
       (step-same-at (S .n) (S .L) (S .U) (R .L) (R .U) (h .L) (h .U) c)
+
+  -- a call that is not refused
+  pub step-accepted : (S : State Value) (c : Call Value) → refusal N S c ≡ none → step N E T S c ≡ accepted N E T S c
+  unfolding step stepUnder
+  step-accepted S c e = rw e

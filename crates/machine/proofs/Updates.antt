@@ -1,4 +1,4 @@
--- Independence of the four updates, for two states of dimension n that agree.
+-- Independence of the four updates, for two states of dimension n that agree, and for data that agree below n.
 use mathlib.Core.Path.{_≡_, refl, sym, subst}
 use mathlib.Core.Bool.{_&&_}
 use mathlib.Core.List.{List, []}
@@ -32,7 +32,7 @@ module _ (N : NumberForm) (E T : N .Value) where
       v = h .v;
     }
 
-    pub put-selected-same : (selected : ℕ) {S R : Work Value} → selected < n → AgreeWithin n (suc k) columns n S R
+    put-selected-same : (selected : ℕ) {S R : Work Value} → selected < n → AgreeWithin n (suc k) columns n S R
         → AgreeWithin n k columns n (putSelected k selected S) (putSelected k selected R)
     unfolding putSelected
     put-selected-same selected hs h = record {
@@ -68,37 +68,39 @@ module _ (N : NumberForm) (E T : N .Value) where
   first-push L U d = (refl, refl)
 
   module _ (n : ℕ) (L U L′ U′ : Table Value) (hL : (i j : ℕ) → i < n → j < n → L i j ≡ L′ i j) (hU : (i j : ℕ) → i ≤ j → j < n → U i j ≡ U′ i j) where
-    pub bordered-same : (row column : List Value) (d : Value) → AgreeWithin (suc n) 0 (suc n) (suc n) (bordered N n L U row column d) (bordered N n L′ U′ row column d)
+    bordered-same : (row row′ column column′ : List Value) (d : Value) → ((j : ℕ) → j < n → entry N row j ≡ entry N row′ j) → ((j : ℕ) → j < n → entry N column j ≡ entry N column′ j)
+        → AgreeWithin (suc n) 0 (suc n) (suc n) (bordered N n L U row column d) (bordered N n L′ U′ row′ column′ d)
     unfolding bordered
-    bordered-same row column d = record {
+    bordered-same row row′ column column′ d er ec = record {
       L = λ i j hi hj. choose (eqb i n) (λ _. refl) (λ a. choose (eqb j n) (λ _. refl) (λ b. hL i j (omega (arith, neqb→ne i n a)) (omega (arith, neqb→ne j n b))));
       U = λ i j hij hj. choose (eqb j n)
-          (λ _. choose (eqb i n) (λ _. refl) (λ a. product-same N n L L′ _ _ hL (λ _ _. refl) i (omega (arith, neqb→ne i n a))))
+          (λ _. choose (eqb i n) (λ _. refl) (λ a. product-same N n L L′ _ _ hL ec i (omega (arith, neqb→ne i n a))))
           (λ b. hU i j hij (omega (arith, neqb→ne j n b)));
-      y = λ j _ _. refl;
+      y = λ j _ hj. choose (eqb j n) (λ _. refl) (λ b. er j (omega (arith, neqb→ne j n b)));
       v = λ j _. refl;
     }
 
-    pub pushed-same : (row column : List Value) (d : Value)
-        → AgreeWithin (suc n) 0 (suc n) (suc n) (pushed N E T n L U row column d) (pushed N E T n L′ U′ row column d)
+    pub pushed-same : (row row′ column column′ : List Value) (d : Value) → ((j : ℕ) → j < n → entry N row j ≡ entry N row′ j) → ((j : ℕ) → j < n → entry N column j ≡ entry N column′ j)
+        → AgreeWithin (suc n) 0 (suc n) (suc n) (pushed N E T n L U row column d) (pushed N E T n L′ U′ row′ column′ d)
     unfolding pushed
-    pushed-same row column d =
-        forward-same N E T (suc n) (suc n) (suc n) (omega arith) 0 n (omega arith) (omega arith) (omega arith) (bordered-same row column d)
+    pushed-same row row′ column column′ d er ec =
+        forward-same N E T (suc n) (suc n) (suc n) (omega arith) 0 n (omega arith) (omega arith) (omega arith) (bordered-same row row′ column column′ d er ec)
 
-    pub column-replaced-same : (k : ℕ) (column : List Value) → k < n → AgreeWithin n n n n (columnReplaced N E T n L U k column) (columnReplaced N E T n L′ U′ k column)
+    pub column-replaced-same : (k : ℕ) (column column′ : List Value) → k < n → ((j : ℕ) → j < n → entry N column j ≡ entry N column′ j)
+        → AgreeWithin n n n n (columnReplaced N E T n L U k column) (columnReplaced N E T n L′ U′ k column′)
     unfolding columnReplaced
-    column-replaced-same k column hk =
+    column-replaced-same k column column′ hk ec =
         let h = put-column-same n n k (omega arith) hk (record {
           L = hL;
           U = hU;
           y = λ j a b. absurd (omega arith);
-          v = product-same N n L L′ _ _ hL (λ _ _. refl);
+          v = product-same N n L L′ _ _ hL ec;
         }) in
         within-choose (ltb (suc k) n)
         (λ s. let l = ltb→lt (suc k) n s in within-from (omega arith) (restored-same n n k (omega arith) hk (n - 1) n (omega arith) (omega arith) (omega arith) h))
         (λ _. h)
 
-    pub column-dropped-same : (k : ℕ) → k < n → AgreeWithin n n (n - 1) n (columnDropped N E T (n - 1) L U k) (columnDropped N E T (n - 1) L′ U′ k)
+    column-dropped-same : (k : ℕ) → k < n → AgreeWithin n n (n - 1) n (columnDropped N E T (n - 1) L U k) (columnDropped N E T (n - 1) L′ U′ k)
     unfolding columnDropped
     column-dropped-same k hk =
         let p = n - 1 in
@@ -120,21 +122,22 @@ module _ (N : NumberForm) (E T : N .Value) where
           v = λ j hj. d .L j r hj hr;
         })
 
-    pub unit-row-same : (s r : ℕ) (row : List Value) (lo : ℕ) {S R : Work Value} → AgreeWithin n lo n n S R → AgreeWithin n 0 n n (unitRow N s r row S) (unitRow N s r row R)
+    unit-row-same : (s r : ℕ) (row row′ : List Value) (lo : ℕ) {S R : Work Value} → ((j : ℕ) → j < n → entry N row j ≡ entry N row′ j) → AgreeWithin n lo n n S R
+        → AgreeWithin n 0 n n (unitRow N s r row S) (unitRow N s r row′ R)
     unfolding unitRow
-    unit-row-same s r row lo h = record {
+    unit-row-same s r row row′ lo er h = record {
       L = λ i j hi hj. choose (eqb i s) (λ _. refl) (λ _. h .L i j hi hj);
       U = h .U;
-      y = λ j _ _. refl;
+      y = λ j _ hj. er j hj;
       v = h .v;
     }
 
-    row-replaced-from-same : (r : ℕ) (row : List Value) (selected : ℕ) → r < n → selected < n
-        → AgreeWithin n 0 n n (rowReplacedFrom N E T n L U r row selected) (rowReplacedFrom N E T n L′ U′ r row selected)
+    row-replaced-from-same : (r : ℕ) (row row′ : List Value) (selected : ℕ) → r < n → selected < n → ((j : ℕ) → j < n → entry N row j ≡ entry N row′ j)
+        → AgreeWithin n 0 n n (rowReplacedFrom N E T n L U r row selected) (rowReplacedFrom N E T n L′ U′ r row′ selected)
     unfolding rowReplacedFrom columnCleared
-    row-replaced-from-same r row selected hr hs =
+    row-replaced-from-same r row row′ selected hr hs er =
         forward-same N E T n n n (omega arith) 0 selected hs (omega arith) (omega arith)
-        (unit-row-same selected r row 0
+        (unit-row-same selected r row row′ 0 er
         (backward-same N E T n n (omega arith) 0 selected 0 hs (omega arith) (record {
           L = λ i j hi hj. choose (eqb j r) (λ _. refl) (λ _. hL i j hi hj);
           U = hU;
@@ -143,14 +146,16 @@ module _ (N : NumberForm) (E T : N .Value) where
         })))
 
   pub row-replaced-same : (n : ℕ) (L U L′ U′ : Table Value) → ((i j : ℕ) → i < n → j < n → L i j ≡ L′ i j) → ((i j : ℕ) → i ≤ j → j < n → U i j ≡ U′ i j)
-      → (r : ℕ) (row : List Value) → r < n → AgreeWithin n 0 n n (rowReplaced N E T n L U r row) (rowReplaced N E T n L′ U′ r row)
+      → (r : ℕ) (row row′ : List Value) → r < n → ((j : ℕ) → j < n → entry N row j ≡ entry N row′ j)
+      → AgreeWithin n 0 n n (rowReplaced N E T n L U r row) (rowReplaced N E T n L′ U′ r row′)
   unfolding rowReplaced
-  row-replaced-same n L U L′ U′ hL hU r row hr =
+  row-replaced-same n L U L′ U′ hL hU r row row′ hr er =
       let s = trim N E 0 (n - 1) (λ i. L i r) in
       let hs : s ≤ n - 1 = trim-le N E 0 (n - 1) (λ i. L i r) in
       within-choose (eqb n 1)
-      (λ e. subst (λ (m : ℕ). AgreeWithin m 0 m m (pushed N E T 0 L U [] [] (entry N row 0)) (pushed N E T 0 L′ U′ [] [] (entry N row 0))) (sym (eqb→eq n 1 e))
-      (pushed-same 0 L U L′ U′ (λ i j a b. absurd (omega arith)) (λ i j a b. absurd (omega arith)) [] [] (entry N row 0)))
-      (λ _. subst (λ (t : ℕ). AgreeWithin n 0 n n (rowReplacedFrom N E T n L U r row s) (rowReplacedFrom N E T n L′ U′ r row t))
+      (λ e. subst (λ (m : ℕ). AgreeWithin m 0 m m (pushed N E T 0 L U [] [] (entry N row 0)) (pushed N E T 0 L′ U′ [] [] (entry N row′ 0))) (sym (eqb→eq n 1 e))
+      (subst (λ (d : Value). AgreeWithin 1 0 1 1 (pushed N E T 0 L U [] [] (entry N row 0)) (pushed N E T 0 L′ U′ [] [] d)) (er 0 (omega arith))
+      (pushed-same 0 L U L′ U′ (λ i j a b. absurd (omega arith)) (λ i j a b. absurd (omega arith)) [] [] [] [] (entry N row 0) (λ j h. refl) (λ j h. refl))))
+      (λ _. subst (λ (t : ℕ). AgreeWithin n 0 n n (rowReplacedFrom N E T n L U r row s) (rowReplacedFrom N E T n L′ U′ r row′ t))
       (trim-same N E 0 (n - 1) (λ i. L i r) (λ i. L′ i r) (λ j l. hL j r (omega arith) hr))
-      (row-replaced-from-same n L U L′ U′ hL hU r row s hr (omega arith)))
+      (row-replaced-from-same n L U L′ U′ hL hU r row row′ s hr (omega arith) er))

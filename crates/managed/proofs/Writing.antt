@@ -1,5 +1,5 @@
 -- A buffer with the active entries of a table written to their places, all else as it was: any table fits any buffer that is long enough.
-use mathlib.Core.Path.{_≡_, refl, sym, ap, _∙_, subst}
+use mathlib.Core.Path.{_≡_, refl, sym, _∙_, subst}
 use mathlib.Core.Bool.{Bool, true, false, _&&_, cond}
 use mathlib.Core.List.{List}
 use mathlib.Core.Logic.{_≢_}
@@ -12,21 +12,13 @@ use lib.Ieee.Fits.{and-i, and-l, and-r}
 use lib.Ieee.Bits.{cond-no}
 use Rattle.numbers.specs.NumberForm.{NumberForm}
 use Rattle.machine.specs.Tables.{Vector, Table, tabulate}
+use Rattle.machine.proofs.Choice.{tabulate-length, tabulate-at}
 use Rattle.storage.specs.Views.{Kept}
 
 module _ {A : Type 0} where
   cond-yes : (b : Bool) (x y : A) → So b → cond b x y ≡ x
   cond-yes true x y h = refl
   cond-yes false x y h = absurd h
-
-  tabulate-length : (k : ℕ) (f : Vector A) → length (tabulate k f) ≡ k
-  tabulate-length zero f = refl
-  tabulate-length (suc k) f = ap suc (tabulate-length k (λ i. f (suc i)))
-
-  tabulate-at : (k : ℕ) (f : Vector A) (d : A) (q : ℕ) → q < k → getD (tabulate k f) q d ≡ f q
-  tabulate-at zero f d q h = absurd (omega arith)
-  tabulate-at (suc k) f d zero h = refl
-  tabulate-at (suc k) f d (suc q) h = tabulate-at k (λ i. f (suc i)) d q (omega arith)
 
 -- the entries of a table that are active among those below n, at places of which no two are equal
 module _ {A : Type 0} (place : ℕ → ℕ → ℕ) (active : ℕ → ℕ → Bool) (table : Table A) (n : ℕ) where

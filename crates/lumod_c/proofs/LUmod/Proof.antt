@@ -1,0 +1,108 @@
+-- `LUmod`: refused with 11, refused with 12, or performed.
+use borrow.Author.Needs.{needs}
+use mathlib.Core.Path.{_≡_, sym, ap, _∙_}
+use Prim.Native.Nat.{_-_}
+use native.Mathlib.Omega.{arith}
+use mir.Facts.{toZ-ofZ}
+use denote.Ref.{now}
+use lib.Ieee.{binary64}
+use lib.ListN.{length}
+use Rattle.numbers.specs.NumberForm.{ieee}
+use Rattle.lumod_c.specs.Numbers.{sizeOf, strideOf}
+use Rattle.lumod_c.specs.Refusals.{passedOver, updateLacksRoom}
+use Rattle.lumod_c.proofs.Tests.{passed, update-room, outcome-11, outcome-12, outcome-0, untouched}
+use Rattle.lumod_c.proofs.LUmod.Statement.{statement}
+use Rattle.lumod_c.proofs.LUmod.Tie as tie
+
+size-requires : tie.Need-size-requires
+size-requires c κs = search needs
+
+size-requires-2 : tie.Need-size-requires-2
+size-requires-2 c κs = search needs
+
+passed-over-requires : tie.Need-passed-over-requires
+passed-over-requires c κs = search needs
+
+returns : tie.Need-returns
+returns c =
+    let m : c .before .before .before .size .result ≡ sizeOf (c .before .before .before .before .before .before .before .before .before .args .mode) = c .before .before .before .size .ensures .0 ∙ ap sizeOf (toZ-ofZ (c .before .before .before .before .before .before .before .before .before .fits .mode)) in
+    let e : c .before .before .size2 .result ≡ sizeOf (c .before .before .before .before .before .before .before .before .before .args .n) = c .before .before .size2 .ensures .0 ∙ ap sizeOf (toZ-ofZ (c .before .before .before .before .before .before .before .before .before .fits .n)) in
+    let p = (λ t. passedOver (sym m t) (sym e t) (sym (toZ-ofZ (c .before .before .before .before .before .before .before .before .before .fits .krow)) t) (sym (toZ-ofZ (c .before .before .before .before .before .before .before .before .before .fits .kcol)) t)) ∙ sym (c .before .passed-over .ensures) ∙ c .if1 .taken in
+    outcome-11 _ (updateLacksRoom (sizeOf (c .before .before .before .before .before .before .before .before .before .args .n)) (strideOf (c .before .before .before .before .before .before .before .before .before .args .maxmod)) (length (now (c .before .before .before .before .before .before .before .before .before .args .l))) (length (now (c .before .before .before .before .before .before .before .before .before .args .u))) (length (now (c .before .before .before .before .before .before .before .before .before .args .y))) (length (now (c .before .before .before .before .before .before .before .before .before .args .z))) (length (now (c .before .before .before .before .before .before .before .before .before .args .w)))) p (untouched (ieee binary64))
+
+stride-requires : tie.Need-stride-requires
+stride-requires c κs = search needs
+
+update-lacks-room-requires : tie.Need-update-lacks-room-requires
+update-lacks-room-requires c κs = search needs
+
+returns-2 : tie.Need-returns-2
+returns-2 c =
+    let m : c .before .before .before .before .before .before .size .result ≡ sizeOf (c .before .before .before .before .before .before .before .before .before .before .before .before .args .mode) = c .before .before .before .before .before .before .size .ensures .0 ∙ ap sizeOf (toZ-ofZ (c .before .before .before .before .before .before .before .before .before .before .before .before .fits .mode)) in
+    let e : c .before .before .before .before .before .size2 .result ≡ sizeOf (c .before .before .before .before .before .before .before .before .before .before .before .before .args .n) = c .before .before .before .before .before .size2 .ensures .0 ∙ ap sizeOf (toZ-ofZ (c .before .before .before .before .before .before .before .before .before .before .before .before .fits .n)) in
+    let f : c .before .before .stride .result ≡ strideOf (c .before .before .before .before .before .before .before .before .before .before .before .before .args .maxmod) = c .before .before .stride .ensures .0 ∙ ap strideOf (toZ-ofZ (c .before .before .before .before .before .before .before .before .before .before .before .before .fits .maxmod)) in
+    let p = (λ t. passedOver (sym m t) (sym e t) (sym (toZ-ofZ (c .before .before .before .before .before .before .before .before .before .before .before .before .fits .krow)) t) (sym (toZ-ofZ (c .before .before .before .before .before .before .before .before .before .before .before .before .fits .kcol)) t)) ∙ sym (c .before .before .before .before .passed-over .ensures) ∙ c .before .before .before .if1 .left in
+    outcome-12 _ _ p ((λ t. updateLacksRoom (sym e t) (sym f t) (length (now (c .before .before .before .before .before .before .before .before .before .before .before .before .args .l))) (length (now (c .before .before .before .before .before .before .before .before .before .before .before .before .args .u))) (length (now (c .before .before .before .before .before .before .before .before .before .before .before .before .args .y))) (length (now (c .before .before .before .before .before .before .before .before .before .before .before .before .args .z))) (length (now (c .before .before .before .before .before .before .before .before .before .before .before .before .args .w)))) ∙ sym (c .before .update-lacks-room .ensures) ∙ c .if2 .taken) (untouched (ieee binary64))
+
+size-requires-3 : tie.Need-size-requires-3
+size-requires-3 c κs = search needs
+
+size-requires-4 : tie.Need-size-requires-4
+size-requires-4 c κs = search needs
+
+perform-requires : tie.Need-perform-requires
+perform-requires c κs =
+    let r : c .before .before .before .before .before .before .size3 .result ≡ sizeOf (c .before .before .before .before .before .before .before .before .before .before .before .before .before .before .before .before .before .before .before .args .krow) = c .before .before .before .before .before .before .size3 .ensures .0 ∙ ap sizeOf (toZ-ofZ (c .before .before .before .before .before .before .before .before .before .before .before .before .before .before .before .before .before .before .before .fits .krow)) in
+    let k : c .before .before .before .before .before .size4 .result ≡ sizeOf (c .before .before .before .before .before .before .before .before .before .before .before .before .before .before .before .before .before .before .before .args .kcol) = c .before .before .before .before .before .size4 .ensures .0 ∙ ap sizeOf (toZ-ofZ (c .before .before .before .before .before .before .before .before .before .before .before .before .before .before .before .before .before .before .before .fits .kcol)) in
+    let h = passed _ _ _ _ ((λ t. passedOver (c .before .before .before .before .before .before .before .before .before .before .before .before .before .size .result) (c .before .before .before .before .before .before .before .before .before .before .before .before .size2 .result) (sym (toZ-ofZ (c .before .before .before .before .before .before .before .before .before .before .before .before .before .before .before .before .before .before .before .fits .krow)) t) (sym (toZ-ofZ (c .before .before .before .before .before .before .before .before .before .before .before .before .before .before .before .before .before .before .before .fits .kcol)) t)) ∙ sym (c .before .before .before .before .before .before .before .before .before .before .before .passed-over .ensures) ∙ c .before .before .before .before .before .before .before .before .before .before .if1 .left) in
+    let s = update-room _ _ _ _ _ _ _ (sym (c .before .before .before .before .before .before .before .before .update-lacks-room .ensures) ∙ c .before .before .before .before .before .before .before .if2 .left) in
+    let b = c .before .before .before .before .before .before .before .before .before .stride .ensures .1 in (
+      record { stride = omega arith; dimension = s .0; l-long = s .1; u-long = s .2 },
+      (s .3, (s .4, (s .5, (h .dimension, (h .greatest, (h .least, (λ q. omega (arith, r, h .row q), (λ q. omega (arith, k, h .column q), (λ q. omega (arith, k, h .column-4 q)))))))))),
+    )
+
+same-length : tie.Need-same-length
+same-length c = search needs
+
+same-length-2 : tie.Need-same-length-2
+same-length-2 c = search needs
+
+same-length-3 : tie.Need-same-length-3
+same-length-3 c = search needs
+
+same-length-4 : tie.Need-same-length-4
+same-length-4 c = search needs
+
+same-length-5 : tie.Need-same-length-5
+same-length-5 c = search needs
+
+returns-3 : tie.Need-returns-3
+returns-3 c =
+    let m : c .before .before .before .before .before .before .before .before .before .before .before .before .before .before .before .before .before .before .before .before .before .before .before .before .size .result ≡ sizeOf (c .before .before .before .before .before .before .before .before .before .before .before .before .before .before .before .before .before .before .before .before .before .before .before .before .before .before .before .before .before .before .args .mode) = c .before .before .before .before .before .before .before .before .before .before .before .before .before .before .before .before .before .before .before .before .before .before .before .before .size .ensures .0 ∙ ap sizeOf (toZ-ofZ (c .before .before .before .before .before .before .before .before .before .before .before .before .before .before .before .before .before .before .before .before .before .before .before .before .before .before .before .before .before .before .fits .mode)) in
+    let e : c .before .before .before .before .before .before .before .before .before .before .before .before .before .before .before .before .before .before .before .before .before .before .before .size2 .result ≡ sizeOf (c .before .before .before .before .before .before .before .before .before .before .before .before .before .before .before .before .before .before .before .before .before .before .before .before .before .before .before .before .before .before .args .n) = c .before .before .before .before .before .before .before .before .before .before .before .before .before .before .before .before .before .before .before .before .before .before .before .size2 .ensures .0 ∙ ap sizeOf (toZ-ofZ (c .before .before .before .before .before .before .before .before .before .before .before .before .before .before .before .before .before .before .before .before .before .before .before .before .before .before .before .before .before .before .fits .n)) in
+    let f : c .before .before .before .before .before .before .before .before .before .before .before .before .before .before .before .before .before .before .before .before .stride .result ≡ strideOf (c .before .before .before .before .before .before .before .before .before .before .before .before .before .before .before .before .before .before .before .before .before .before .before .before .before .before .before .before .before .before .args .maxmod) = c .before .before .before .before .before .before .before .before .before .before .before .before .before .before .before .before .before .before .before .before .stride .ensures .0 ∙ ap strideOf (toZ-ofZ (c .before .before .before .before .before .before .before .before .before .before .before .before .before .before .before .before .before .before .before .before .before .before .before .before .before .before .before .before .before .before .fits .maxmod)) in
+    let r : c .before .before .before .before .before .before .before .before .before .before .before .before .before .before .before .before .before .size3 .result ≡ sizeOf (c .before .before .before .before .before .before .before .before .before .before .before .before .before .before .before .before .before .before .before .before .before .before .before .before .before .before .before .before .before .before .args .krow) = c .before .before .before .before .before .before .before .before .before .before .before .before .before .before .before .before .before .size3 .ensures .0 ∙ ap sizeOf (toZ-ofZ (c .before .before .before .before .before .before .before .before .before .before .before .before .before .before .before .before .before .before .before .before .before .before .before .before .before .before .before .before .before .before .fits .krow)) in
+    let k : c .before .before .before .before .before .before .before .before .before .before .before .before .before .before .before .before .size4 .result ≡ sizeOf (c .before .before .before .before .before .before .before .before .before .before .before .before .before .before .before .before .before .before .before .before .before .before .before .before .before .before .before .before .before .before .args .kcol) = c .before .before .before .before .before .before .before .before .before .before .before .before .before .before .before .before .size4 .ensures .0 ∙ ap sizeOf (toZ-ofZ (c .before .before .before .before .before .before .before .before .before .before .before .before .before .before .before .before .before .before .before .before .before .before .before .before .before .before .before .before .before .before .fits .kcol)) in
+    let p = (λ t. passedOver (sym m t) (sym e t) (sym (toZ-ofZ (c .before .before .before .before .before .before .before .before .before .before .before .before .before .before .before .before .before .before .before .before .before .before .before .before .before .before .before .before .before .before .fits .krow)) t) (sym (toZ-ofZ (c .before .before .before .before .before .before .before .before .before .before .before .before .before .before .before .before .before .before .before .before .before .before .before .before .before .before .before .before .before .before .fits .kcol)) t)) ∙ sym (c .before .before .before .before .before .before .before .before .before .before .before .before .before .before .before .before .before .before .before .before .before .before .passed-over .ensures) ∙ c .before .before .before .before .before .before .before .before .before .before .before .before .before .before .before .before .before .before .before .before .before .if1 .left in
+    outcome-0 _ _ p ((λ t. updateLacksRoom (sym e t) (sym f t) (length (now (c .before .before .before .before .before .before .before .before .before .before .before .before .before .before .before .before .before .before .before .before .before .before .before .before .before .before .before .before .before .before .args .l))) (length (now (c .before .before .before .before .before .before .before .before .before .before .before .before .before .before .before .before .before .before .before .before .before .before .before .before .before .before .before .before .before .before .args .u))) (length (now (c .before .before .before .before .before .before .before .before .before .before .before .before .before .before .before .before .before .before .before .before .before .before .before .before .before .before .before .before .before .before .args .y))) (length (now (c .before .before .before .before .before .before .before .before .before .before .before .before .before .before .before .before .before .before .before .before .before .before .before .before .before .before .before .before .before .before .args .z))) (length (now (c .before .before .before .before .before .before .before .before .before .before .before .before .before .before .before .before .before .before .before .before .before .before .before .before .before .before .before .before .before .before .args .w)))) ∙ sym (c .before .before .before .before .before .before .before .before .before .before .before .before .before .before .before .before .before .before .before .update-lacks-room .ensures) ∙ c .before .before .before .before .before .before .before .before .before .before .before .before .before .before .before .before .before .before .if2 .left) (rw (← m, ← e, ← f, ← r, ← k) (c .before .before .before .before .before .before .before .before .before .before .perform .ensures))
+
+pub LUmod-spec : {M : Type 1} → statement M
+LUmod-spec =
+    tie.close
+    (tie.spec
+    size-requires
+    size-requires-2
+    passed-over-requires
+    returns
+    stride-requires
+    update-lacks-room-requires
+    returns-2
+    size-requires-3
+    size-requires-4
+    perform-requires
+    same-length
+    same-length-2
+    same-length-3
+    same-length-4
+    same-length-5
+    returns-3)

@@ -1,0 +1,92 @@
+-- `Lprod`: refused with 11, refused with 12, or performed in either mode.
+use borrow.Author.Needs.{needs}
+use mathlib.Core.Path.{_≡_, refl, sym, ap, _∙_}
+use Prim.Native.Nat.{_-_}
+use native.Mathlib.Omega.{arith}
+use borrow.Author.Tests.{eq-eqb, ne-eqb}
+use mir.Facts.{toZ-ofZ}
+use denote.Ref.{now}
+use lib.Ieee.{binary64}
+use lib.ListN.{length}
+use Rattle.numbers.specs.NumberForm.{ieee}
+use Rattle.lumod_c.specs.Numbers.{sizeOf, strideOf}
+use Rattle.lumod_c.specs.Refusals.{productLacksRoom}
+use Rattle.lumod_c.proofs.Tests.{product-room, outcome-11, outcome-12, outcome-0}
+use Rattle.lumod_c.proofs.Calls.{plain-product, transposed-product}
+use Rattle.lumod_c.proofs.Lprod.Statement.{statement}
+use Rattle.lumod_c.proofs.Lprod.Tie as tie
+
+size-requires : tie.Need-size-requires
+size-requires c κs = search needs
+
+returns : tie.Need-returns
+returns c =
+    let a = c .before .before .before .before .before .args in
+    let e : c .before .size .result ≡ sizeOf (c .before .before .before .before .before .args .n) = c .before .size .ensures .0 ∙ ap sizeOf (toZ-ofZ (c .before .before .before .before .before .fits .n)) in
+    outcome-11 _ (productLacksRoom (sizeOf (a .n)) (strideOf (a .maxmod)) (length (now (a .l))) (length (now (a .y))) (length (now (a .z)))) (eq-eqb _ 0 (sym e ∙ c .if1 .taken)) refl
+
+stride-requires : tie.Need-stride-requires
+stride-requires c κs = search needs
+
+product-lacks-room-requires : tie.Need-product-lacks-room-requires
+product-lacks-room-requires c κs = search needs
+
+returns-2 : tie.Need-returns-2
+returns-2 c =
+    let e : c .before .before .before .before .size .result ≡ sizeOf (c .before .before .before .before .before .before .before .before .args .n) = c .before .before .before .before .size .ensures .0 ∙ ap sizeOf (toZ-ofZ (c .before .before .before .before .before .before .before .before .fits .n)) in
+    let f : c .before .before .stride .result ≡ strideOf (c .before .before .before .before .before .before .before .before .args .maxmod) = c .before .before .stride .ensures .0 ∙ ap strideOf (toZ-ofZ (c .before .before .before .before .before .before .before .before .fits .maxmod)) in
+    outcome-12 _ _ (ne-eqb _ 0 (λ h. c .before .before .before .if1 .left (e ∙ h))) ((λ t. productLacksRoom (sym e t) (sym f t) (length (now (c .before .before .before .before .before .before .before .before .args .l))) (length (now (c .before .before .before .before .before .before .before .before .args .y))) (length (now (c .before .before .before .before .before .before .before .before .args .z)))) ∙ sym (c .before .product-lacks-room .ensures) ∙ c .if2 .taken) refl
+
+size-requires-2 : tie.Need-size-requires-2
+size-requires-2 c κs = search needs
+
+l-product-requires : tie.Need-l-product-requires
+l-product-requires c κs =
+    let r = product-room _ _ _ _ _ (sym (c .before .before .before .before .product-lacks-room .ensures) ∙ c .before .before .before .if2 .left) in
+    let p = c .before .before .before .before .before .stride .ensures .1 in
+    omega arith
+
+l-product-transposed-requires : tie.Need-l-product-transposed-requires
+l-product-transposed-requires c κs =
+    let r = product-room _ _ _ _ _ (sym (c .before .before .before .before .product-lacks-room .ensures) ∙ c .before .before .before .if2 .left) in
+    let p = c .before .before .before .before .before .stride .ensures .1 in
+    omega arith
+
+same-length : tie.Need-same-length
+same-length c = search needs
+
+returns-3 : tie.Need-returns-3
+returns-3 c =
+    let e : c .before .before .before .before .before .before .before .before .before .before .size .result ≡ sizeOf (c .before .before .before .before .before .before .before .before .before .before .before .before .before .before .args .n) = c .before .before .before .before .before .before .before .before .before .before .size .ensures .0 ∙ ap sizeOf (toZ-ofZ (c .before .before .before .before .before .before .before .before .before .before .before .before .before .before .fits .n)) in
+    let f : c .before .before .before .before .before .before .before .before .stride .result ≡ strideOf (c .before .before .before .before .before .before .before .before .before .before .before .before .before .before .args .maxmod) = c .before .before .before .before .before .before .before .before .stride .ensures .0 ∙ ap strideOf (toZ-ofZ (c .before .before .before .before .before .before .before .before .before .before .before .before .before .before .fits .maxmod)) in
+    let g : c .before .before .before .before .before .size2 .result ≡ sizeOf (c .before .before .before .before .before .before .before .before .before .before .before .before .before .before .args .mode) = c .before .before .before .before .before .size2 .ensures .0 ∙ ap sizeOf (toZ-ofZ (c .before .before .before .before .before .before .before .before .before .before .before .before .before .before .fits .mode)) in
+    outcome-0 _ _ (ne-eqb _ 0 (λ h. c .before .before .before .before .before .before .before .before .before .if1 .left (e ∙ h))) ((λ t. productLacksRoom (sym e t) (sym f t) (length (now (c .before .before .before .before .before .before .before .before .before .before .before .before .before .before .args .l))) (length (now (c .before .before .before .before .before .before .before .before .before .before .before .before .before .before .args .y))) (length (now (c .before .before .before .before .before .before .before .before .before .before .before .before .before .before .args .z)))) ∙ sym (c .before .before .before .before .before .before .before .product-lacks-room .ensures) ∙ c .before .before .before .before .before .before .if2 .left)
+    (rw (← e, ← f, ← g, plain-product (ieee binary64) _ _ _ _ _ (c .before .before .before .before .if3 .taken)) (c .before .before .l-product .ensures))
+
+same-length-2 : tie.Need-same-length-2
+same-length-2 c = search needs
+
+returns-4 : tie.Need-returns-4
+returns-4 c =
+    let e : c .before .before .before .before .before .before .before .before .before .before .size .result ≡ sizeOf (c .before .before .before .before .before .before .before .before .before .before .before .before .before .before .args .n) = c .before .before .before .before .before .before .before .before .before .before .size .ensures .0 ∙ ap sizeOf (toZ-ofZ (c .before .before .before .before .before .before .before .before .before .before .before .before .before .before .fits .n)) in
+    let f : c .before .before .before .before .before .before .before .before .stride .result ≡ strideOf (c .before .before .before .before .before .before .before .before .before .before .before .before .before .before .args .maxmod) = c .before .before .before .before .before .before .before .before .stride .ensures .0 ∙ ap strideOf (toZ-ofZ (c .before .before .before .before .before .before .before .before .before .before .before .before .before .before .fits .maxmod)) in
+    let g : c .before .before .before .before .before .size2 .result ≡ sizeOf (c .before .before .before .before .before .before .before .before .before .before .before .before .before .before .args .mode) = c .before .before .before .before .before .size2 .ensures .0 ∙ ap sizeOf (toZ-ofZ (c .before .before .before .before .before .before .before .before .before .before .before .before .before .before .fits .mode)) in
+    outcome-0 _ _ (ne-eqb _ 0 (λ h. c .before .before .before .before .before .before .before .before .before .if1 .left (e ∙ h))) ((λ t. productLacksRoom (sym e t) (sym f t) (length (now (c .before .before .before .before .before .before .before .before .before .before .before .before .before .before .args .l))) (length (now (c .before .before .before .before .before .before .before .before .before .before .before .before .before .before .args .y))) (length (now (c .before .before .before .before .before .before .before .before .before .before .before .before .before .before .args .z)))) ∙ sym (c .before .before .before .before .before .before .before .product-lacks-room .ensures) ∙ c .before .before .before .before .before .before .if2 .left)
+    (rw (← e, ← f, ← g, transposed-product (ieee binary64) _ _ _ _ _ (c .before .before .before .before .if3 .left)) (c .before .before .l-product-transposed .ensures))
+
+pub Lprod-spec : {M : Type 1} → statement M
+Lprod-spec =
+    tie.close
+    (tie.spec
+    size-requires
+    returns
+    stride-requires
+    product-lacks-room-requires
+    returns-2
+    size-requires-2
+    l-product-requires
+    l-product-transposed-requires
+    same-length
+    returns-3
+    same-length-2
+    returns-4)

@@ -1,0 +1,92 @@
+-- `Usolve`: refused with 11, refused with 12, or performed in either mode.
+use borrow.Author.Needs.{needs}
+use mathlib.Core.Path.{_≡_, refl, sym, ap, _∙_}
+use Prim.Native.Nat.{_-_}
+use native.Mathlib.Omega.{arith}
+use borrow.Author.Tests.{eq-eqb, ne-eqb}
+use mir.Facts.{toZ-ofZ}
+use denote.Ref.{now}
+use lib.Ieee.{binary64}
+use lib.ListN.{length}
+use Rattle.numbers.specs.NumberForm.{ieee}
+use Rattle.lumod_c.specs.Numbers.{sizeOf, strideOf}
+use Rattle.lumod_c.specs.Refusals.{solveLacksRoom}
+use Rattle.lumod_c.proofs.Tests.{solve-room, outcome-11, outcome-12, outcome-0}
+use Rattle.lumod_c.proofs.Calls.{plain-solve, transposed-solve}
+use Rattle.lumod_c.proofs.Usolve.Statement.{statement}
+use Rattle.lumod_c.proofs.Usolve.Tie as tie
+
+size-requires : tie.Need-size-requires
+size-requires c κs = search needs
+
+returns : tie.Need-returns
+returns c =
+    let a = c .before .before .before .before .args in
+    let e : c .before .size .result ≡ sizeOf (c .before .before .before .before .args .n) = c .before .size .ensures .0 ∙ ap sizeOf (toZ-ofZ (c .before .before .before .before .fits .n)) in
+    outcome-11 _ (solveLacksRoom (sizeOf (a .n)) (strideOf (a .maxmod)) (length (now (a .u))) (length (now (a .y)))) (eq-eqb _ 0 (sym e ∙ c .if1 .taken)) refl
+
+stride-requires : tie.Need-stride-requires
+stride-requires c κs = search needs
+
+solve-lacks-room-requires : tie.Need-solve-lacks-room-requires
+solve-lacks-room-requires c κs = search needs
+
+returns-2 : tie.Need-returns-2
+returns-2 c =
+    let e : c .before .before .before .before .size .result ≡ sizeOf (c .before .before .before .before .before .before .before .args .n) = c .before .before .before .before .size .ensures .0 ∙ ap sizeOf (toZ-ofZ (c .before .before .before .before .before .before .before .fits .n)) in
+    let f : c .before .before .stride .result ≡ strideOf (c .before .before .before .before .before .before .before .args .maxmod) = c .before .before .stride .ensures .0 ∙ ap strideOf (toZ-ofZ (c .before .before .before .before .before .before .before .fits .maxmod)) in
+    outcome-12 _ _ (ne-eqb _ 0 (λ h. c .before .before .before .if1 .left (e ∙ h))) ((λ t. solveLacksRoom (sym e t) (sym f t) (length (now (c .before .before .before .before .before .before .before .args .u))) (length (now (c .before .before .before .before .before .before .before .args .y)))) ∙ sym (c .before .solve-lacks-room .ensures) ∙ c .if2 .taken) refl
+
+size-requires-2 : tie.Need-size-requires-2
+size-requires-2 c κs = search needs
+
+back-substitute-requires : tie.Need-back-substitute-requires
+back-substitute-requires c κs =
+    let r = solve-room _ _ _ _ (sym (c .before .before .before .before .solve-lacks-room .ensures) ∙ c .before .before .before .if2 .left) in
+    let p = c .before .before .before .before .before .stride .ensures .1 in
+    omega arith
+
+forward-substitute-requires : tie.Need-forward-substitute-requires
+forward-substitute-requires c κs =
+    let r = solve-room _ _ _ _ (sym (c .before .before .before .before .solve-lacks-room .ensures) ∙ c .before .before .before .if2 .left) in
+    let p = c .before .before .before .before .before .stride .ensures .1 in
+    omega arith
+
+same-length : tie.Need-same-length
+same-length c = search needs
+
+returns-3 : tie.Need-returns-3
+returns-3 c =
+    let e : c .before .before .before .before .before .before .before .before .before .before .size .result ≡ sizeOf (c .before .before .before .before .before .before .before .before .before .before .before .before .before .args .n) = c .before .before .before .before .before .before .before .before .before .before .size .ensures .0 ∙ ap sizeOf (toZ-ofZ (c .before .before .before .before .before .before .before .before .before .before .before .before .before .fits .n)) in
+    let f : c .before .before .before .before .before .before .before .before .stride .result ≡ strideOf (c .before .before .before .before .before .before .before .before .before .before .before .before .before .args .maxmod) = c .before .before .before .before .before .before .before .before .stride .ensures .0 ∙ ap strideOf (toZ-ofZ (c .before .before .before .before .before .before .before .before .before .before .before .before .before .fits .maxmod)) in
+    let g : c .before .before .before .before .before .size2 .result ≡ sizeOf (c .before .before .before .before .before .before .before .before .before .before .before .before .before .args .mode) = c .before .before .before .before .before .size2 .ensures .0 ∙ ap sizeOf (toZ-ofZ (c .before .before .before .before .before .before .before .before .before .before .before .before .before .fits .mode)) in
+    outcome-0 _ _ (ne-eqb _ 0 (λ h. c .before .before .before .before .before .before .before .before .before .if1 .left (e ∙ h))) ((λ t. solveLacksRoom (sym e t) (sym f t) (length (now (c .before .before .before .before .before .before .before .before .before .before .before .before .before .args .u))) (length (now (c .before .before .before .before .before .before .before .before .before .before .before .before .before .args .y)))) ∙ sym (c .before .before .before .before .before .before .before .solve-lacks-room .ensures) ∙ c .before .before .before .before .before .before .if2 .left)
+    (rw (← e, ← f, ← g, plain-solve (ieee binary64) _ _ _ _ _ (c .before .before .before .before .if3 .taken)) (c .before .before .back-substitute .ensures))
+
+same-length-2 : tie.Need-same-length-2
+same-length-2 c = search needs
+
+returns-4 : tie.Need-returns-4
+returns-4 c =
+    let e : c .before .before .before .before .before .before .before .before .before .before .size .result ≡ sizeOf (c .before .before .before .before .before .before .before .before .before .before .before .before .before .args .n) = c .before .before .before .before .before .before .before .before .before .before .size .ensures .0 ∙ ap sizeOf (toZ-ofZ (c .before .before .before .before .before .before .before .before .before .before .before .before .before .fits .n)) in
+    let f : c .before .before .before .before .before .before .before .before .stride .result ≡ strideOf (c .before .before .before .before .before .before .before .before .before .before .before .before .before .args .maxmod) = c .before .before .before .before .before .before .before .before .stride .ensures .0 ∙ ap strideOf (toZ-ofZ (c .before .before .before .before .before .before .before .before .before .before .before .before .before .fits .maxmod)) in
+    let g : c .before .before .before .before .before .size2 .result ≡ sizeOf (c .before .before .before .before .before .before .before .before .before .before .before .before .before .args .mode) = c .before .before .before .before .before .size2 .ensures .0 ∙ ap sizeOf (toZ-ofZ (c .before .before .before .before .before .before .before .before .before .before .before .before .before .fits .mode)) in
+    outcome-0 _ _ (ne-eqb _ 0 (λ h. c .before .before .before .before .before .before .before .before .before .if1 .left (e ∙ h))) ((λ t. solveLacksRoom (sym e t) (sym f t) (length (now (c .before .before .before .before .before .before .before .before .before .before .before .before .before .args .u))) (length (now (c .before .before .before .before .before .before .before .before .before .before .before .before .before .args .y)))) ∙ sym (c .before .before .before .before .before .before .before .solve-lacks-room .ensures) ∙ c .before .before .before .before .before .before .if2 .left)
+    (rw (← e, ← f, ← g, transposed-solve (ieee binary64) _ _ _ _ _ (c .before .before .before .before .if3 .left)) (c .before .before .forward-substitute .ensures))
+
+pub Usolve-spec : {M : Type 1} → statement M
+Usolve-spec =
+    tie.close
+    (tie.spec
+    size-requires
+    returns
+    stride-requires
+    solve-lacks-room-requires
+    returns-2
+    size-requires-2
+    back-substitute-requires
+    forward-substitute-requires
+    same-length
+    returns-3
+    same-length-2
+    returns-4)

@@ -1,0 +1,100 @@
+-- The outcome of a zero-based call, whole: the number that it returns and what it leaves in every buffer that it may write.
+use mathlib.Core.Path.{_≡_}
+use mathlib.Core.Bool.{cond}
+use mathlib.Core.List.{List}
+use mathlib.Core.Option.{Option, none, some}
+use Prim.Native.Nat.{ℕ, _-_, _<_}
+use lib.Dec.{eqb}
+use lib.IntN.{ℤ}
+use lib.ListN.{length}
+use Rattle.numbers.specs.NumberForm.{NumberForm}
+use Rattle.machine.specs.Tables.{Vector, State, tabulate}
+use Rattle.machine.specs.Products.{entry, product, productTransposed}
+use Rattle.machine.specs.Solves.{backSubstitution, forwardSubstitution}
+use Rattle.machine.specs.Calls.{Call, push, replaceRow, replaceColumn, remove, Answer}
+use Rattle.machine.specs.Machine.{step}
+use Rattle.machine.specs.Agreement.{Agree}
+use Rattle.storage.specs.Places.{LPlace, UPlace}
+use Rattle.storage.specs.Views.{viewL, viewU, Kept}
+use Rattle.rows.specs.Written.{Written}
+use Rattle.lumod_c.specs.Numbers.{sizeOf, strideOf}
+use Rattle.lumod_c.specs.Refusals.{numberOf, updateRefusal, productRefusal, solveRefusal}
+
+-- n is the new dimension of a push; a remove leaves one less
+abbrev pub dimensionBefore : ℕ → ℕ → ℕ
+dimensionBefore mode n = cond (eqb mode 1) (n - 1) n
+
+abbrev pub dimensionAfter : ℕ → ℕ → ℕ
+dimensionAfter mode n = cond (eqb mode 4) (n - 1) n
+
+-- A call that a test refuses returns the refusal's number and leaves all untouched; any other returns 0 and is performed.
+pub record Outcome (refusal : Option Answer) (Untouched Performed : Type 0) (answer : ℕ) : Type 0 where
+  pub number : answer ≡ numberOf refusal
+  pub refused : (r : Answer) → refusal ≡ some r → Untouched
+  pub accepted : refusal ≡ none → Performed
+
+module _ (N : NumberForm) where
+  open NumberForm N using (Value)
+
+  -- the state that buffers of stride c hold at dimension n
+  abbrev pub stateAt : ℕ → ℕ → List Value → List Value → State Value
+  stateAt c n l u = record { n = n; L = viewL N c l; U = viewU N c u }
+
+  -- Modes 1 to 4 are push (row and diagonal in y, column in z), replace column (z), replace row (y), remove.
+  unfoldable pub callOf : ℕ → ℕ → ℕ → ℕ → List Value → List Value → Call Value
+  callOf mode n row column y z =
+      cond (eqb mode 1) (push (tabulate (n - 1) (entry N y)) (tabulate (n - 1) (entry N z)) (entry N y (n - 1)))
+      (cond (eqb mode 2) (replaceColumn column (tabulate n (entry N z)))
+      (cond (eqb mode 3) (replaceRow row (tabulate n (entry N y)))
+      (remove row column)))
+
+  -- mode 1 is plain, any other mode transposed
+  unfoldable pub productOf : ℕ → ℕ → ℕ → List Value → List Value → Vector Value
+  productOf mode c n l y = cond (eqb mode 1) (product N n (viewL N c l) (entry N y)) (productTransposed N n (viewL N c l) (entry N y))
+
+  -- the part of a solve that divides by U's diagonal, without the L product
+  unfoldable pub solveOf : ℕ → ℕ → ℕ → List Value → List Value → Vector Value
+  solveOf mode c n u y = cond (eqb mode 1) (backSubstitution N n (viewU N c u) (entry N y) n) (forwardSubstitution N (viewU N c u) (entry N y) n)
+
+  -- `Lprod` writes the L product of y to the first n of z; y and L are only read.
+  abbrev pub ProductOutcome : ℤ → ℤ → ℤ → List Value → List Value → List Value → List Value → ℕ → Type 0
+  ProductOutcome mode maxmod n l y z z′ answer =
+      Outcome (productRefusal maxmod n (length l) (length y) (length z)) (z′ ≡ z)
+      (Written N (λ i. i) (sizeOf n) (productOf (sizeOf mode) (strideOf maxmod) (sizeOf n) l y) z z′)
+      answer
+
+  -- `Usolve` runs on y, and tests no diagonal; U is only read.
+  abbrev pub SolveOutcome : ℤ → ℤ → ℤ → List Value → List Value → List Value → ℕ → Type 0
+  SolveOutcome mode maxmod n u y y′ answer =
+      Outcome (solveRefusal maxmod n (length u) (length y)) (y′ ≡ y)
+      (Written N (λ i. i) (sizeOf n) (solveOf (sizeOf mode) (strideOf maxmod) (sizeOf n) u y) y y′)
+      answer
+
+  -- every buffer as it was
+  pub record Untouched (l u y z w l′ u′ y′ z′ w′ : List Value) : Type 0 where
+    pub l-same : l′ ≡ l
+    pub u-same : u′ ≡ u
+    pub y-same : y′ ≡ y
+    pub z-same : z′ ≡ z
+    pub w-same : w′ ≡ w
+
+module _ (N : NumberForm) (E T : N .Value) where
+  open NumberForm N using (Value)
+
+  -- The factors are those of the machine's step. Outside the entries that are active at the larger dimension n, and from n on in the vectors, all is as it
+  -- was.
+  pub record UpdateDone (mode c n row column : ℕ) (l u y z w l′ u′ y′ z′ w′ : List Value) : Type 0 where
+    pub factors : Agree (stateAt N c (dimensionAfter mode n) l′ u′) (step N E T (stateAt N c (dimensionBefore mode n) l u) (callOf N mode n row column y z) .after)
+    pub l-kept : Kept N (LPlace c n) l l′
+    pub u-kept : Kept N (UPlace c n) u u′
+    pub y-kept : Kept N (λ q. q < n) y y′
+    pub z-kept : Kept N (λ q. q < n) z z′
+    pub w-kept : Kept N (λ q. q < n) w w′
+
+  -- `LUmod`
+  abbrev pub UpdateOutcome : ℤ → ℤ → ℤ → ℤ → ℤ → List Value → List Value → List Value → List Value → List Value
+      → List Value → List Value → List Value → List Value → List Value → ℕ → Type 0
+  UpdateOutcome mode maxmod n krow kcol l u y z w l′ u′ y′ z′ w′ answer =
+      Outcome (updateRefusal mode maxmod n krow kcol (length l) (length u) (length y) (length z) (length w)) (Untouched N l u y z w l′ u′ y′ z′ w′)
+      (UpdateDone (sizeOf mode) (strideOf maxmod) (sizeOf n) (sizeOf krow) (sizeOf kcol) l u y z w l′ u′ y′ z′ w′)
+      answer

@@ -1,0 +1,115 @@
+//! The five buffers of a call, with doubles beside them that no call may touch.
+
+use std::ops::{Index, IndexMut};
+
+use crate::data::garbage;
+use crate::random::Random;
+
+const BESIDE: usize = 3;
+
+/// The places of a buffer start at 0. The doubles before it have negative places.
+#[derive(Clone)]
+pub struct Buffer {
+    cells: Vec<f64>,
+    start: usize,
+    length: usize,
+}
+
+impl Buffer {
+    /// Garbage. The start is sometimes a multiple of 16 bytes and sometimes not.
+    pub fn new(length: usize, random: &mut Random) -> Self {
+        let start = BESIDE + random.below(2);
+        let cells = (0..start + length + BESIDE).map(|_| garbage(random));
+        Self {
+            cells: cells.collect(),
+            start,
+            length,
+        }
+    }
+
+    pub fn len(&self) -> usize {
+        self.length
+    }
+
+    pub fn slice(&self) -> &[f64] {
+        &self.cells[self.start..self.start + self.length]
+    }
+
+    pub fn slice_mut(&mut self) -> &mut [f64] {
+        &mut self.cells[self.start..self.start + self.length]
+    }
+
+    /// Keeps what is there up to the new length.
+    pub fn set_len(&mut self, length: usize, random: &mut Random) {
+        let end = self.start + self.length.min(length);
+        self.cells.truncate(end);
+        while self.cells.len() < self.start + length + BESIDE {
+            self.cells.push(garbage(random));
+        }
+        self.length = length;
+    }
+
+    pub fn first_place(&self) -> isize {
+        -(self.start as isize)
+    }
+
+    /// The place after the last double that is kept beside the buffer.
+    pub fn end_place(&self) -> isize {
+        (self.cells.len() - self.start) as isize
+    }
+
+    pub fn at(&self, place: isize) -> f64 {
+        self.cells[(place + self.start as isize) as usize]
+    }
+
+    pub fn at_mut(&mut self, place: isize) -> &mut f64 {
+        &mut self.cells[(place + self.start as isize) as usize]
+    }
+}
+
+#[derive(Clone, Copy, PartialEq)]
+pub enum Name {
+    L,
+    U,
+    Y,
+    Z,
+    W,
+}
+
+pub const NAMES: [Name; 5] = [Name::L, Name::U, Name::Y, Name::Z, Name::W];
+pub const VECTORS: [Name; 3] = [Name::Y, Name::Z, Name::W];
+
+impl Name {
+    pub fn text(self) -> &'static str {
+        ["l", "u", "y", "z", "w"][self as usize]
+    }
+}
+
+#[derive(Clone)]
+pub struct Buffers([Buffer; 5]);
+
+impl Buffers {
+    /// Garbage in buffers of the given lengths, in the order l, u, y, z, w.
+    pub fn new(lengths: [usize; 5], random: &mut Random) -> Self {
+        Self(lengths.map(|length| Buffer::new(length, random)))
+    }
+
+    /// All five at once, as a call needs them.
+    pub fn slices_mut(&mut self) -> [&mut [f64]; 5] {
+        self.0.each_mut().map(Buffer::slice_mut)
+    }
+}
+
+impl Index<Name> for Buffers {
+    type Output = Buffer;
+
+    fn index(&self, name: Name) -> &Buffer {
+        &self.0[name as usize]
+    }
+}
+
+impl IndexMut<Name> for Buffers {
+    fn index_mut(&mut self, name: Name) -> &mut Buffer {
+        &mut self.0[name as usize]
+    }
+}

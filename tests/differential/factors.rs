@@ -1,0 +1,104 @@
+//! Factors and vectors that a call is given.
+
+use crate::arguments::{l_place, u_place};
+use crate::buffers::{Buffers, Name};
+use crate::data::{garbage, Profile};
+use crate::random::Random;
+
+#[derive(Clone, Copy)]
+enum Form {
+    Any,
+    Identity,
+    /// One entry in every row and column, a power of two.
+    Permutation,
+    UnitLower,
+}
+
+/// Active entries at dimension n, not those of any matrix in particular.
+pub fn fill_factors(
+    buffers: &mut Buffers,
+    stride: usize,
+    n: usize,
+    profile: Profile,
+    random: &mut Random,
+) {
+    fill_l(buffers[Name::L].slice_mut(), stride, n, profile, random);
+    let u = buffers[Name::U].slice_mut();
+    for i in 0..n {
+        for j in i..n {
+            u[u_place(stride, i, j)] = profile.value(random);
+        }
+    }
+}
+
+/// In the sparse forms an L product gives back its vector's own entries.
+fn fill_l(l: &mut [f64], stride: usize, n: usize, profile: Profile, random: &mut Random) {
+    let form = random.pick(&[
+        Form::Any,
+        Form::Any,
+        Form::Identity,
+        Form::Permutation,
+        Form::UnitLower,
+    ]);
+    let shift = random.below(n + 1);
+    for i in 0..n {
+        for j in 0..n {
+            l[l_place(stride, i, j)] = match form {
+                Form::Any => profile.value(random),
+                Form::Permutation if (i + shift) % n == j => {
+                    let power = 2f64.powi(random.between(-1, 1) as i32);
+                    random.sign(power)
+                }
+                Form::Identity | Form::UnitLower if i == j => 1.0,
+                Form::UnitLower if i > j => profile.value(random),
+                _ => 0.0,
+            };
+        }
+    }
+}
+
+pub fn fill_vector(
+    buffers: &mut Buffers,
+    name: Name,
+    n: usize,
+    profile: Profile,
+    random: &mut Random,
+) {
+    for value in &mut buffers[name].slice_mut()[..n] {
+        *value = profile.value(random);
+    }
+}
+
+/// Garbage in all storage that is not active at dimension n.
+pub fn scramble_unused(buffers: &mut Buffers, stride: usize, n: usize, random: &mut Random) {
+    let l = buffers[Name::L].slice_mut();
+    for (place, value) in l.iter_mut().enumerate() {
+        if place / stride >= n || place % stride >= n {
+            *value = garbage(random);
+        }
+    }
+    let u = buffers[Name::U].slice_mut();
+    let mut place = 0;
+    for i in 0..stride {
+        for j in i..stride {
+            if j >= n {
+                u[place] = garbage(random);
+            }
+            place += 1;
+        }
+    }
+    u[place..].fill_with(|| garbage(random));
+}
+
+/// Whether there is little left to compute with: no number on U's diagonal
+/// but zero, or NaNs in most of L.
+pub fn is_degenerate(buffers: &Buffers, stride: usize, n: usize) -> bool {
+    let (l, u) = (buffers[Name::L].slice(), buffers[Name::U].slice());
+    let no_pivot = (0..n)
+        .map(|i| u[u_place(stride, i, i)])
+        .all(|pivot| pivot == 0.0 || pivot.is_nan());
+    let nans = (0..n * n)
+        .filter(|k| l[l_place(stride, k / n, k % n)].is_nan())
+        .count();
+    n > 1 && (no_pivot || 2 * nans > n * n)
+}
