@@ -54,18 +54,9 @@ pub extern "C" fn LUmod(
     ) {
         return 12;
     }
-    perform(
-        operation,
-        dimension,
-        capacity,
-        size(krow),
-        size(kcol),
-        l,
-        u,
-        y,
-        z,
-        w,
-    );
+    let row = size(krow);
+    let column = size(kcol);
+    perform(operation, dimension, capacity, row, column, l, u, y, z, w);
     0
 }
 
