@@ -1,35 +1,15 @@
 -- What an update leaves in its buffers.
-use mathlib.Core.Path.{_≡_}
-use mathlib.Core.Bool.{cond}
 use mathlib.Core.List.{List, []}
 use Prim.Native.Nat.{ℕ, _<_}
-use lib.Dec.{eqb}
 use Rattle.numbers.specs.NumberForm.{NumberForm}
-use Rattle.machine.specs.Tables.{Table, Work, stateOf}
+use Rattle.machine.specs.Tables.{Work, stateOf}
 use Rattle.machine.specs.Agreement.{Agree}
 use Rattle.storage.specs.Places.{LPlace, UPlace}
-use Rattle.storage.specs.Views.{viewL, Kept}
-use Rattle.elimination.specs.Performed.{workOf}
+use Rattle.storage.specs.Views.{Kept}
+use Rattle.forward.specs.Performed.{workOf}
 
 module _ (N : NumberForm) where
-  open NumberForm N using (Value, zero as 𝟎, one as 𝟏)
-
-  -- row s of a table becomes 0 with 1 at r
-  abbrev pub withUnitRow : ℕ → ℕ → Table Value → Table Value
-  withUnitRow s r L i j = cond (eqb i s) (cond (eqb j r) 𝟏 𝟎) (L i j)
-
-  -- L at dimension n becomes what f makes of it, and all else of its buffer is as it was
-  pub record LUpdated (c n : ℕ) (f : Table Value → Table Value) (l l′ : List Value) : Type 0 where
-    pub value : (i j : ℕ) → i < n → j < n → viewL N c l′ i j ≡ f (viewL N c l) i j
-    pub kept : Kept N (LPlace c n) l l′
-
-  -- the factors at dimension n are those of R, and outside the active entries, and from n on in y and w, all is as it was
-  pub record Dropped (c n : ℕ) (R : Work Value) (l u y w l′ u′ y′ w′ : List Value) : Type 0 where
-    pub agree : Agree (stateOf n (workOf N c l′ u′ [] [])) (stateOf n R)
-    pub l-kept : Kept N (LPlace c n) l l′
-    pub u-kept : Kept N (UPlace c n) u u′
-    pub y-kept : Kept N (λ q. q < n) y y′
-    pub w-kept : Kept N (λ q. q < n) w w′
+  open NumberForm N using (Value)
 
   -- The factors of dimension m are those of R. Outside the entries that are active at the larger dimension n, and from n on in the workspaces, all is as
   -- it was.

@@ -1,4 +1,3 @@
--- Sizes is about a host's numbers, Tests about what a refusal that was not given tells, Calls about the machine's step for each mode.
-pub mod Sizes
+-- Tests is about what a refusal that was or was not given tells, Calls about the machine's step for each mode.
 pub mod Tests
 pub mod Calls

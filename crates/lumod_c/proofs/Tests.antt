@@ -12,8 +12,8 @@ use borrow.Author.Tests.{leb-false, ltb-false, eq-eqb, eqb-false}
 use Rattle.numbers.specs.NumberForm.{NumberForm}
 use Rattle.machine.specs.Calls.{Answer, _orElse_, refuseIf}
 use Rattle.storage.specs.Places.{uLength}
-use Rattle.lumod_c.specs.Numbers.{sizeOf, outside}
-use Rattle.lumod_c.specs.Refusals.{numberOf, indexOutside, passedOver, updateLacksRoom, productLacksRoom, solveLacksRoom}
+use Rattle.zero_based.specs.Numbers.{sizeOf, outside}
+use Rattle.zero_based.specs.Refusals.{numberOf, indexOutside, passedOver, updateLacksRoom, productLacksRoom, solveLacksRoom}
 use Rattle.lumod_c.specs.Outcome.{Outcome, Untouched}
 
 -- ---- the chain of two refusals

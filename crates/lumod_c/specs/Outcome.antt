@@ -16,9 +16,9 @@ use Rattle.machine.specs.Machine.{step}
 use Rattle.machine.specs.Agreement.{Agree}
 use Rattle.storage.specs.Places.{LPlace, UPlace}
 use Rattle.storage.specs.Views.{viewL, viewU, Kept}
-use Rattle.rows.specs.Written.{Written}
-use Rattle.lumod_c.specs.Numbers.{sizeOf, strideOf}
-use Rattle.lumod_c.specs.Refusals.{numberOf, updateRefusal, productRefusal, solveRefusal}
+use Rattle.ranges.specs.Written.{Written}
+use Rattle.zero_based.specs.Numbers.{sizeOf, strideOf}
+use Rattle.zero_based.specs.Refusals.{numberOf, updateRefusal, productRefusal, solveRefusal}
 
 -- n is the new dimension of a push; a remove leaves one less
 abbrev pub dimensionBefore : ℕ → ℕ → ℕ

@@ -4,19 +4,18 @@ ghost use lib.Ieee.{binary64};
 ghost use Rattle.numbers.specs.NumberForm.{ieee};
 ghost use Rattle.numbers.specs.Tolerances.{zeroBasedEpsilon, zeroBasedTiny};
 ghost use Rattle.lumod_c.specs.Outcome.{ProductOutcome, SolveOutcome, UpdateOutcome};
-use algorithm::products::l_product;
-use algorithm::products::l_product_transposed;
-use algorithm::substitution::back_substitute;
-use algorithm::substitution::forward_substitute;
-use refusals::passed_over;
-use refusals::product_lacks_room;
-use refusals::size;
-use refusals::solve_lacks_room;
-use refusals::stride;
-use refusals::update_lacks_room;
+use solves::products::l_product;
+use solves::products::l_product_transposed;
+use solves::substitution::back_substitute;
+use solves::substitution::forward_substitute;
 use update::perform;
+use zero_based::passed_over;
+use zero_based::product_lacks_room;
+use zero_based::size;
+use zero_based::solve_lacks_room;
+use zero_based::stride;
+use zero_based::update_lacks_room;
 
-mod refusals;
 mod update;
 
 // Updates the factors. Mode 1 appends a row and a column (n is the new dimension; row and diagonal in y, column in z), 2 replaces column kcol by z, 3 replaces

@@ -5,12 +5,12 @@ ghost use lib.ListN.{length};
 ghost use lib.Ieee.{binary64};
 ghost use Rattle.numbers.specs.NumberForm.{ieee};
 ghost use Rattle.numbers.specs.Tolerances.{zeroBasedEpsilon, zeroBasedTiny};
-ghost use Rattle.elimination.specs.Performed.{Room};
+ghost use Rattle.forward.specs.Performed.{Room};
 ghost use Rattle.lumod_c.specs.Outcome.{UpdateDone};
-use algorithm::updates::push;
-use algorithm::updates::remove;
-use algorithm::updates::replace_column;
-use algorithm::updates::replace_row;
+use algorithm::push;
+use algorithm::remove;
+use algorithm::replace_column;
+use algorithm::replace_row;
 use numerics::tolerance::zero_based;
 
 // Push, replace column, replace row or remove, for the modes 1 to 4. Only the indices that a mode uses are asked to be below n.

@@ -9,8 +9,8 @@ use denote.Ref.{now}
 use lib.Ieee.{binary64}
 use lib.ListN.{length}
 use Rattle.numbers.specs.NumberForm.{ieee}
-use Rattle.lumod_c.specs.Numbers.{sizeOf, strideOf}
-use Rattle.lumod_c.specs.Refusals.{productLacksRoom}
+use Rattle.zero_based.specs.Numbers.{sizeOf, strideOf}
+use Rattle.zero_based.specs.Refusals.{productLacksRoom}
 use Rattle.lumod_c.proofs.Tests.{product-room, outcome-11, outcome-12, outcome-0}
 use Rattle.lumod_c.proofs.Calls.{plain-product, transposed-product}
 use Rattle.lumod_c.proofs.Lprod.Statement.{statement}

@@ -1,0 +1,71 @@
+-- `backward`: the copy, and then the rows.
+use borrow.Author.Needs.{needs}
+use mathlib.Core.Path.{_∙_}
+use Prim.Native.Nat.{_-_}
+use native.Mathlib.Omega.{arith}
+use lib.Ieee.{binary64}
+use Rattle.numbers.specs.NumberForm.{ieee}
+use Rattle.numbers.specs.Tolerances.{tinyOf}
+use Rattle.machine.specs.Backward.{backward}
+use Rattle.machine.proofs.Choice.{within-from}
+use Rattle.machine.proofs.Backward.{backward-rows-same}
+use Rattle.forward.proofs.RowParts.{part-fits}
+use Rattle.forward.proofs.Buffers.{performed-then}
+use Rattle.backward.proofs.BackwardRow.{row-copied}
+use Rattle.backward.proofs.backward.Statement.{statement}
+use Rattle.backward.proofs.backward.Tie as tie
+
+u-index-requires : tie.Need-u-index-requires
+u-index-requires c κs = omega arith
+
+sub-copy : tie.Need-sub-copy
+sub-copy c = search needs
+
+copy-requires : tie.Need-copy-requires
+copy-requires c κs =
+    let a = c .before .before .before .before .before .before .before .args in
+    let p = c .before .before .before .before .before .before .before .pre in
+    let d = c .before .before .u-index in
+    (omega arith, part-fits (a .stride) (a .selected) (a .selected) (a .columns - a .selected) (d .result) (omega arith) (omega arith) (d .ensures .0) _ (omega arith) (omega arith))
+
+backward-rows-requires : tie.Need-backward-rows-requires
+backward-rows-requires c κs =
+    let p = c .before .before .before .before .before .before .before .before .before .before .before .before .before .before .pre in
+    (p .0, (rw (c .before .before .before .before .before .before .copy .ensures .kept .long) (p .1 .0), p .1 .1))
+
+same-length : tie.Need-same-length
+same-length c = c .before .before .before .before .before .before .before .before .backward-rows .ensures .l-kept .long
+
+same-length-2 : tie.Need-same-length-2
+same-length-2 c = c .before .before .before .before .before .before .before .before .backward-rows .ensures .u-kept .long
+
+same-length-3 : tie.Need-same-length-3
+same-length-3 c = c .before .before .before .before .before .before .before .before .backward-rows .ensures .y-kept .long ∙ c .before .before .before .before .before .before .before .before .before .before .before .before .before .before .before .copy .ensures .kept .long
+
+same-length-4 : tie.Need-same-length-4
+same-length-4 c = c .before .before .before .before .before .before .before .before .backward-rows .ensures .v-kept .long
+
+returns : tie.Need-returns
+unfolding backward
+returns c =
+    let a = c .before .before .before .before .before .before .before .before .before .before .before .before .before .before .before .before .before .before .before .before .before .before .before .args in
+    let p = c .before .before .before .before .before .before .before .before .before .before .before .before .before .before .before .before .before .before .before .before .before .before .before .pre in
+    let d = c .before .before .before .before .before .before .before .before .before .before .before .before .before .before .before .before .before .before .u-index in
+    performed-then (ieee binary64)
+    (row-copied (ieee binary64) (a .stride) (a .n) (a .columns) (a .selected) (d .result) _ _ _ _ (omega arith) (omega arith) (omega arith) (d .ensures .0) (c .before .before .before .before .before .before .before .before .before .before .before .before .before .before .before .copy .ensures))
+    (c .before .before .before .before .before .before .before .before .backward-rows .ensures) (omega arith)
+    (λ S R h. within-from (omega arith) (backward-rows-same (ieee binary64) (a .numerics .epsilon) (tinyOf binary64 (a .numerics .epsilon) (a .numerics .«update_tiny»)) (a .n) (a .columns) (omega arith) (a .selected) (a .selected - a .first) (omega arith) (omega arith) h))
+
+pub backward-spec : {M : Type 1} → statement M
+backward-spec =
+    tie.close
+    (tie.spec
+    u-index-requires
+    sub-copy
+    copy-requires
+    backward-rows-requires
+    same-length
+    same-length-2
+    same-length-3
+    same-length-4
+    returns)

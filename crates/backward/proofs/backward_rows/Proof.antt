@@ -1,0 +1,84 @@
+-- `backward_rows`: row after row, downward.
+use mathlib.Core.Path.{_≡_}
+use Prim.Native.Nat.{_-_, _≤_}
+use native.Mathlib.Omega.{arith}
+use lib.Ieee.{binary64}
+use Rattle.numbers.specs.NumberForm.{ieee}
+use Rattle.numbers.specs.Tolerances.{tinyOf}
+use Rattle.machine.specs.Backward.{backwardRow, backwardRows}
+use Rattle.machine.proofs.Backward.{backward-row-same}
+use Rattle.forward.specs.Performed.{Performed}
+use Rattle.forward.proofs.Buffers.{performed-none, performed-then, performed-as}
+use Rattle.backward.proofs.BackwardRow.{backward-rows-none, backward-rows-more}
+use Rattle.backward.proofs.backward_rows.Statement.{statement}
+use Rattle.backward.proofs.backward_rows.Tie as tie
+
+abbrev Inv-loop : tie.InvT-loop
+Inv-loop first selected n columns stride l₀ u₀ y₀ v₀ numerics row₀ l u y v row = (first ≤ row) × ((row ≤ selected) × Performed (ieee binary64) stride n row columns n (backwardRows (ieee binary64) (numerics .epsilon) (tinyOf binary64 (numerics .epsilon) (numerics .«update_tiny»)) selected columns (selected - row)) l₀ u₀ y₀ v₀ l u y v)
+
+abbrev μ-loop : tie.MeasureT-loop
+μ-loop first selected n columns stride l₀ u₀ y₀ v₀ numerics row₀ l u y v row = row
+
+loop-holds : tie.Need-loop-holds Inv-loop μ-loop
+loop-holds c = (omega arith, (omega arith, performed-as (ieee binary64) (λ S. S) (backward-rows-none (ieee binary64) _ _ _ _ _) (performed-none (ieee binary64))))
+
+sub-row : tie.Need-sub-row Inv-loop μ-loop
+sub-row c = omega arith
+
+backward-row-requires : tie.Need-backward-row-requires Inv-loop μ-loop
+backward-row-requires c κs =
+    let p = c .before .before .before .before .before .before .before .before .before .before .pre in
+    let k = c .before .before .before .before .before .loop .inv .1 .1 in (
+      record { stride = p .0 .stride; dimension = p .0 .dimension; l-long = rw (k .l-kept .long) (p .0 .l-long); u-long = rw (k .u-kept .long) (p .0 .u-long) },
+      (rw (k .y-kept .long) (p .1 .0), (rw (k .v-kept .long) (p .1 .1 .0), omega arith)),
+    )
+
+loop-less : tie.Need-loop-less Inv-loop μ-loop
+loop-less c = omega arith
+
+loop-again : tie.Need-loop-again Inv-loop μ-loop
+loop-again c =
+    let a = c .before .before .before .before .before .before .before .before .before .before .before .before .before .before .before .before .before .before .before .args in
+    let p = c .before .before .before .before .before .before .before .before .before .before .before .before .before .before .before .before .before .before .before .pre in
+    let h = c .before .before .before .before .before .before .before .before .before .before .before .before .before .before .loop .inv in (
+      omega arith,
+      (
+        omega arith,
+        performed-as (ieee binary64) (λ S. backwardRow (ieee binary64) (a .numerics .epsilon) (tinyOf binary64 (a .numerics .epsilon) (a .numerics .«update_tiny»)) (a .selected) (a .columns) (c .before .before .before .before .before .before .before .before .before .before .before .before .before .before .loop .row - 1) (backwardRows (ieee binary64) (a .numerics .epsilon) (tinyOf binary64 (a .numerics .epsilon) (a .numerics .«update_tiny»)) (a .selected) (a .columns) (a .selected - c .before .before .before .before .before .before .before .before .before .before .before .before .before .before .loop .row) S))
+            (backward-rows-more (ieee binary64) (a .numerics .epsilon) (tinyOf binary64 (a .numerics .epsilon) (a .numerics .«update_tiny»)) (a .selected) (a .columns) (c .before .before .before .before .before .before .before .before .before .before .before .before .before .before .loop .row) _ (omega arith) (h .1 .0))
+            (performed-then (ieee binary64) (h .1 .1) (c .before .before .before .before .before .before .before .before .backward-row .ensures) (omega arith)
+            (λ S R. backward-row-same (ieee binary64) (a .numerics .epsilon) (tinyOf binary64 (a .numerics .epsilon) (a .numerics .«update_tiny»)) (a .n) (a .columns) (omega arith) (a .selected) (c .before .before .before .before .before .before .before .before .before .before .before .before .before .before .loop .row - 1) (c .before .before .before .before .before .before .before .before .before .before .before .before .before .before .loop .row) (omega arith) (omega arith) (omega arith))),
+      ),
+    )
+
+same-length : tie.Need-same-length Inv-loop μ-loop
+same-length c = c .before .loop .inv .1 .1 .l-kept .long
+
+same-length-2 : tie.Need-same-length-2 Inv-loop μ-loop
+same-length-2 c = c .before .loop .inv .1 .1 .u-kept .long
+
+same-length-3 : tie.Need-same-length-3 Inv-loop μ-loop
+same-length-3 c = c .before .loop .inv .1 .1 .y-kept .long
+
+same-length-4 : tie.Need-same-length-4 Inv-loop μ-loop
+same-length-4 c = c .before .loop .inv .1 .1 .v-kept .long
+
+returns : tie.Need-returns Inv-loop μ-loop
+returns c = let e : c .before .loop .row ≡ c .before .before .before .before .before .before .args .first = omega arith in rw e at (c .before .loop .inv .1 .1)
+
+pub backward-rows-spec : {M : Type 1} → statement M
+backward-rows-spec =
+    tie.close
+    (tie.spec
+    Inv-loop
+    μ-loop
+    loop-holds
+    sub-row
+    backward-row-requires
+    loop-less
+    loop-again
+    same-length
+    same-length-2
+    same-length-3
+    same-length-4
+    returns)

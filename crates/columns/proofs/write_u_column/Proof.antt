@@ -1,0 +1,71 @@
+-- `write_u_column`: one entry a turn.
+use borrow.Author.Needs.{needs}
+use mathlib.Core.Path.{_≡_, refl}
+use Prim.Native.Nat.{_-_, _≤_}
+use native.Mathlib.Omega.{arith}
+use lib.Ieee.{binary64}
+use Rattle.numbers.specs.NumberForm.{ieee}
+use Rattle.machine.specs.Products.{entry}
+use Rattle.storage.specs.Places.{uIndex}
+use Rattle.ranges.specs.Written.{Written}
+use Rattle.ranges.proofs.Writing.{written-none, stored}
+use Rattle.columns.proofs.ColumnPlaces.{uIndex-column-apart}
+use Rattle.columns.proofs.write_u_column.Statement.{statement}
+use Rattle.columns.proofs.write_u_column.Tie as tie
+
+abbrev Inv-loop : tie.InvT-loop
+Inv-loop u₀ column rows stride values i₀ u i = (i ≤ rows) × Written (ieee binary64) (λ j. uIndex stride j column) i (entry (ieee binary64) values) u₀ u
+
+abbrev μ-loop : tie.MeasureT-loop
+μ-loop u₀ column rows stride values i₀ u i = rows - i
+
+loop-holds : tie.Need-loop-holds Inv-loop μ-loop
+loop-holds c = (search needs, written-none (ieee binary64))
+
+mul-u : tie.Need-mul-u Inv-loop μ-loop
+mul-u c = omega arith
+
+shared-slice-read-u : tie.Need-shared-slice-read-u Inv-loop μ-loop
+shared-slice-read-u c = omega arith
+
+u-index-requires : tie.Need-u-index-requires Inv-loop μ-loop
+u-index-requires c κs = search needs
+
+mul-u-2 : tie.Need-mul-u-2 Inv-loop μ-loop
+mul-u-2 c = omega arith
+
+slice-write-u : tie.Need-slice-write-u Inv-loop μ-loop
+slice-write-u c = omega arith
+
+add-i : tie.Need-add-i Inv-loop μ-loop
+add-i c = omega arith
+
+loop-less : tie.Need-loop-less Inv-loop μ-loop
+loop-less c = omega arith
+
+loop-again : tie.Need-loop-again Inv-loop μ-loop
+loop-again c = (omega arith, stored (ieee binary64) (λ j. uIndex-column-apart _ _ _ j (omega arith) (omega arith)) (c .before .before .before .loop .inv .1) (c .u-index .ensures .0) (omega arith) refl)
+
+same-length : tie.Need-same-length Inv-loop μ-loop
+same-length c = c .before .loop .inv .1 .kept .long
+
+returns : tie.Need-returns Inv-loop μ-loop
+returns c = let e : c .before .loop .i ≡ c .before .before .before .before .args .rows = omega arith in rw e at (c .before .loop .inv .1)
+
+pub write-u-column-spec : {M : Type 1} → statement M
+write-u-column-spec =
+    tie.close
+    (tie.spec
+    Inv-loop
+    μ-loop
+    loop-holds
+    mul-u
+    shared-slice-read-u
+    u-index-requires
+    mul-u-2
+    slice-write-u
+    add-i
+    loop-less
+    loop-again
+    same-length
+    returns)

@@ -1,5 +1,0 @@
--- Buffers composes steps; ForwardRow and BackwardRow say what the operations on rows do to the tables that the buffers hold.
-pub mod RowParts
-pub mod Buffers
-pub mod ForwardRow
-pub mod BackwardRow

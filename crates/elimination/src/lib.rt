@@ -1,3 +1,0 @@
-// Forward and Backward: eliminations by pair steps, on factors in lent slices.
-pub mod backward;
-pub mod forward;

@@ -1,0 +1,146 @@
+-- `forward_row`: where the guard fails nothing changes, and otherwise the pair step is made and applied.
+use borrow.Author.Needs.{needs}
+use mathlib.Core.Path.{_∙_}
+use mathlib.Core.Logic.{inl}
+use Prim.Native.Nat.{_-_}
+use native.Mathlib.Omega.{arith}
+use lib.Ieee.{binary64}
+use lib.ListN.{length, length-set}
+use denote.Ref.{now}
+use Rattle.numbers.specs.NumberForm.{ieee}
+use Rattle.numbers.specs.Tolerances.{tinyOf}
+use Rattle.machine.specs.Forward.{forwardTransform}
+use Rattle.storage.proofs.Places.{row-before, row-fits}
+use Rattle.forward.proofs.RowParts.{part-fits}
+use Rattle.forward.proofs.Buffers.{performed-none, performed-as}
+use Rattle.forward.proofs.ForwardRow.{forward-transformed, forward-acts, forward-passes}
+use Rattle.forward.proofs.forward_row.Statement.{statement}
+use Rattle.forward.proofs.forward_row.Tie as tie
+
+u-index-requires : tie.Need-u-index-requires
+u-index-requires c κs = omega arith
+
+mul-pivot : tie.Need-mul-pivot
+mul-pivot c = search needs
+
+slice-read-pivot : tie.Need-slice-read-pivot
+slice-read-pivot c = search needs
+
+mul-value : tie.Need-mul-value
+mul-value c = search needs
+
+slice-read-value : tie.Need-slice-read-value
+slice-read-value c = search needs
+
+abs-requires : tie.Need-abs-requires
+abs-requires c κs = search needs
+
+abs-requires-2 : tie.Need-abs-requires-2
+abs-requires-2 c κs = search needs
+
+elementary-requires : tie.Need-elementary-requires
+elementary-requires c κs = search needs
+
+mul-u : tie.Need-mul-u
+mul-u c = search needs
+
+slice-write-u : tie.Need-slice-write-u
+slice-write-u c = search needs
+
+mul-y : tie.Need-mul-y
+mul-y c = search needs
+
+slice-write-y : tie.Need-slice-write-y
+slice-write-y c = search needs
+
+add-transform-slices : tie.Need-add-transform-slices
+add-transform-slices c = search needs
+
+add-transform-slices-2 : tie.Need-add-transform-slices-2
+add-transform-slices-2 c = search needs
+
+add-transform-slices-3 : tie.Need-add-transform-slices-3
+add-transform-slices-3 c = search needs
+
+sub-transform-slices : tie.Need-sub-transform-slices
+sub-transform-slices c = search needs
+
+transform-slices-requires : tie.Need-transform-slices-requires
+transform-slices-requires c κs =
+    let a = c .before .before .before .before .before .before .before .before .before .before .before .before .before .before .before .args in
+    let d = c .before .before .before .before .before .before .before .before .before .before .before .u-index in
+    let h = part-fits (a .stride) (a .row) (a .row) (a .columns - a .row) (d .result) (omega arith) (omega arith) (d .ensures .0) (length (now (a .u))) (omega arith) (omega arith) in
+    simp length-set (omega arith)
+
+mul-transform-rows : tie.Need-mul-transform-rows
+mul-transform-rows c = let p = c .before .before .before .before .before .before .before .before .before .before .before .before .before .before .before .before .before .before .before .before .before .pre in omega (arith, row-fits (c .before .before .before .before .before .before .before .before .before .before .before .before .before .before .before .before .before .before .before .before .before .args .stride) (c .before .before .before .before .before .before .before .before .before .before .before .before .before .before .before .before .before .before .before .before .before .args .row) (omega arith) (omega arith))
+
+mul-transform-rows-2 : tie.Need-mul-transform-rows-2
+mul-transform-rows-2 c = let p = c .before .before .before .before .before .before .before .before .before .before .before .before .before .before .before .before .before .before .before .before .before .pre in omega (arith, row-fits (c .before .before .before .before .before .before .before .before .before .before .before .before .before .before .before .before .before .before .before .before .before .args .stride) (c .before .before .before .before .before .before .before .before .before .before .before .before .before .before .before .before .before .before .before .before .before .args .last) (omega arith) (omega arith))
+
+transform-rows-requires : tie.Need-transform-rows-requires
+transform-rows-requires c κs =
+    let a = c .before .before .before .before .before .before .before .before .before .before .before .before .before .before .before .before .before .before .before .before .before .args in
+    let h = c .before .before .before .before .before .before .before .before .before .before .before .before .before .before .before .before .before .before .before .before .before .pre in
+    let p = row-before (a .stride) (a .row) (a .last) (omega arith) in
+    let q = row-before (a .stride) (a .last) (a .stride) (omega arith) in
+    (inl (omega arith), (omega arith, omega arith))
+
+same-length : tie.Need-same-length
+same-length c = c .before .before .transform-rows .ensures .kept .long
+
+same-length-2 : tie.Need-same-length-2
+same-length-2 c = c .before .before .before .before .before .before .before .before .transform-slices .ensures .0 .kept .long ∙ simp length-set
+
+same-length-3 : tie.Need-same-length-3
+same-length-3 c = c .before .before .before .before .before .before .before .before .transform-slices .ensures .1 .kept .long ∙ simp length-set
+
+returns : tie.Need-returns
+returns c =
+    let a = c .before .before .before .before .before .before .before .before .before .before .before .before .before .before .before .before .before .before .before .before .before .before .before .before .args in
+    let p = c .before .before .before .before .before .before .before .before .before .before .before .before .before .before .before .before .before .before .before .before .before .before .before .before .pre in
+    let d = c .before .before .before .before .before .before .before .before .before .before .before .before .before .before .before .before .before .before .before .before .u-index in
+    let s = c .before .before .before .before .before .before .before .before .before .before .before .elementary in
+    performed-as (ieee binary64) (forwardTransform (ieee binary64) (a .last) (a .columns) (a .row) _)
+    (forward-acts (ieee binary64) (a .numerics .epsilon) (tinyOf binary64 (a .numerics .epsilon) (a .numerics .«update_tiny»)) (a .stride) (a .row) (a .last) (a .columns) (d .result) (now (a .l)) (now (a .u)) (now (a .y)) (d .ensures .0) (c .before .before .before .before .before .before .before .before .before .before .before .before .before .before .before .before .abs2 .ensures) (c .before .before .before .before .before .before .before .before .before .before .before .before .before .before .before .before .before .abs .ensures) (c .before .before .before .before .before .before .before .before .before .before .before .before .before .before .if1 .taken) (s .ensures .step))
+    (forward-transformed (ieee binary64) (a .stride) (a .n) (a .columns) (a .row) (a .last) (d .result) (now (a .l)) (now (a .u)) (now (a .y)) _ _ _ _
+    (omega arith) (omega arith) (omega arith) (omega arith) (omega arith) (d .ensures .0) (omega arith) (omega arith) (s .ensures .cleared)
+    (c .before .before .before .before .before .before .before .before .transform-slices .ensures .0) (c .before .before .before .before .before .before .before .before .transform-slices .ensures .1) (c .before .before .transform-rows .ensures))
+
+returns-2 : tie.Need-returns-2
+returns-2 c =
+    let a = c .before .before .before .before .before .before .before .before .before .before .args in
+    let d = c .before .before .before .before .before .before .u-index in
+    performed-as (ieee binary64) (λ S. S)
+    (forward-passes (ieee binary64) (a .numerics .epsilon) (tinyOf binary64 (a .numerics .epsilon) (a .numerics .«update_tiny»)) (a .stride) (a .row) (a .last) (a .columns) (d .result) (now (a .l)) (now (a .u)) (now (a .y)) (d .ensures .0) (c .before .before .abs2 .ensures) (c .before .before .before .abs .ensures) (c .if1 .left))
+    (performed-none (ieee binary64))
+
+pub forward-row-spec : {M : Type 1} → statement M
+forward-row-spec =
+    tie.close
+    (tie.spec
+    u-index-requires
+    mul-pivot
+    slice-read-pivot
+    mul-value
+    slice-read-value
+    abs-requires
+    abs-requires-2
+    elementary-requires
+    mul-u
+    slice-write-u
+    mul-y
+    slice-write-y
+    add-transform-slices
+    add-transform-slices-2
+    add-transform-slices-3
+    sub-transform-slices
+    transform-slices-requires
+    mul-transform-rows
+    mul-transform-rows-2
+    transform-rows-requires
+    same-length
+    same-length-2
+    same-length-3
+    returns
+    returns-2)

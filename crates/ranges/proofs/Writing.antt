@@ -1,0 +1,128 @@
+-- One more turn of a loop that stores: what `Written` says of k places becomes what it says of k + 1.
+use mathlib.Core.Path.{_≡_, refl, sym, _∙_}
+use mathlib.Core.Bool.{Bool}
+use mathlib.Core.List.{List}
+use mathlib.Core.Logic.{_≢_, _⊎_, inl, inr, ⊎-elim}
+use Prim.Native.Nat.{ℕ, _+_, _≤_, _<_}
+use native.Mathlib.Numerals.{add-one}
+use native.Mathlib.Omega.{arith}
+use lib.ListN.{length, set, length-set}
+use lib.Seq.{getD-set-same, getD-set-other}
+use borrow.Author.Count.{below-none, below-more}
+use Rattle.numbers.specs.NumberForm.{NumberForm}
+use Rattle.numbers.specs.PairStep.{first, second}
+use Rattle.machine.specs.Tables.{Vector}
+use Rattle.machine.specs.Products.{entry, sum}
+use Rattle.storage.specs.Views.{Kept}
+use Rattle.storage.proofs.Kept.{kept-all}
+use Rattle.ranges.specs.Written.{from, Written, RowsTransformed}
+
+module _ (N : NumberForm) where
+  open NumberForm N using (Value, zero as 𝟎, absent, add)
+
+  module _ {place : ℕ → ℕ} {f : Vector Value} where
+    pub written-none : {l : List Value} → Written N place 0 f l l
+    written-none {l} = record { value = below-none (λ k. entry N l (place k) ≡ f k); kept = kept-all N }
+
+    -- no earlier place is stored to again
+    module _ {k : ℕ} {old l : List Value} (apart : (j : ℕ) → j < k → place j ≢ place k) (done : Written N place k f old l) where
+      -- the place that is next still holds what it held
+      pub unwritten : entry N l (place k) ≡ entry N old (place k)
+      unwritten = done .kept .same (place k) (λ a. apart (a .0) (a .1) (sym (a .2)))
+
+      pub written-more : {x : Value} → place k < length l → x ≡ f k → Written N place (k + 1) f old (set l (place k) x)
+      written-more {x} fits is-x = record {
+        value = below-more (λ j. entry N (set l (place k) x) (place j) ≡ f j) k
+            (λ j h. getD-set-other l (place k) (place j) x absent (apart j h) ∙ done .value j h)
+            (getD-set-same l (place k) x absent fits ∙ is-x);
+        kept = record {
+          long = length-set l (place k) x ∙ done .kept .long;
+          same = λ q free. getD-set-other l (place k) q x absent (λ e. free (k, omega arith, e))
+              ∙ done .kept .same q (λ a. free (a .0, omega arith, a .2));
+        };
+      }
+
+  -- places of a range are apart, and those of a vector
+  pub range-apart : (start k j : ℕ) → j < k → from start j ≢ from start k
+  range-apart start k j h e = omega arith
+
+  pub apart : (k j : ℕ) → j < k → j ≢ k
+  apart k j h e = omega arith
+
+  -- the same with a store at a place that was computed
+  pub stored : {place : ℕ → ℕ} {f : Vector Value} {k p : ℕ} {old l : List Value} {x : Value} → ((j : ℕ) → j < k → place j ≢ place k) → Written N place k f old l → p ≡ place k
+      → p < length l → x ≡ f k → Written N place (k + 1) f old (set l p x)
+  stored {place} {f} {k} {p} {old} {l} {x} apart-k done e fits is-x = rw e (written-more apart-k done (rw (← e) fits) is-x)
+
+  pub sum-none : (t : Vector Value) → 𝟎 ≡ sum N 0 t
+  unfolding sum
+  sum-none t = refl
+
+  -- one more term of a sum
+  pub sum-more : (t : Vector Value) {k : ℕ} {s : Value} → s ≡ sum N k t → add s (t k) ≡ sum N (k + 1) t
+  unfolding sum
+  sum-more t {k} e = rw add-one (λ i. add (e i) (t k))
+
+  -- ---- pairs of two slices
+
+  module _ (swap : Bool) (m : Value) (x y k : ℕ) (xs₀ ys₀ : List Value) {xs ys : List Value}
+      (dx : Written N (from x) k (λ j. first N swap (entry N xs₀ (x + j)) (entry N ys₀ (y + j))) xs₀ xs)
+      (dy : Written N (from y) k (λ j. second N swap m (entry N xs₀ (x + j)) (entry N ys₀ (y + j))) ys₀ ys) where
+    old-x : entry N xs (x + k) ≡ entry N xs₀ (x + k)
+    old-x = unwritten (range-apart x k) dx
+
+    old-y : entry N ys (y + k) ≡ entry N ys₀ (y + k)
+    old-y = unwritten (range-apart y k) dy
+
+    pub firsts-more : {a : Value} → x + k < length xs → a ≡ first N swap (entry N xs (x + k)) (entry N ys (y + k))
+        → Written N (from x) (k + 1) (λ j. first N swap (entry N xs₀ (x + j)) (entry N ys₀ (y + j))) xs₀ (set xs (x + k) a)
+    firsts-more fits e = written-more (range-apart x k) dx fits (e ∙ (λ i. first N swap (old-x i) (old-y i)))
+
+    pub seconds-more : {b : Value} → y + k < length ys → b ≡ second N swap m (entry N xs (x + k)) (entry N ys (y + k))
+        → Written N (from y) (k + 1) (λ j. second N swap m (entry N xs₀ (x + j)) (entry N ys₀ (y + j))) ys₀ (set ys (y + k) b)
+    seconds-more fits e = written-more (range-apart y k) dy fits (e ∙ (λ i. second N swap m (old-x i) (old-y i)))
+
+  -- ---- pairs of one slice
+
+  pub rows-none : {swap : Bool} {m : Value} {x y : ℕ} {l : List Value} → RowsTransformed N swap m x y 0 l l
+  rows-none = record {
+    firsts = λ j h. absurd (omega arith);
+    seconds = λ j h. absurd (omega arith);
+    kept = kept-all N;
+  }
+
+  module _ {swap : Bool} {m : Value} {x y n k : ℕ} {l₀ l : List Value} {a b : Value} (apart : (x + n ≤ y) ⊎ (y + n ≤ x)) (turn : k < n) (fits-x : x + n ≤ length l)
+      (fits-y : y + n ≤ length l) (done : RowsTransformed N swap m x y k l₀ l) (is-a : a ≡ first N swap (entry N l (x + k)) (entry N l (y + k)))
+      (is-b : b ≡ second N swap m (entry N l (x + k)) (entry N l (y + k))) where
+    -- no place of one range is one of the other
+    apart-at : (i j : ℕ) → i < n → j < n → x + i ≢ y + j
+    apart-at i j hi hj e = ⊎-elim (λ h. omega arith) (λ h. omega arith) apart
+
+    same-x : entry N l (x + k) ≡ entry N l₀ (x + k)
+    same-x = done .kept .same (x + k) (λ w. ⊎-elim (λ p. omega arith) (λ p. apart-at k (p .0) turn (omega arith) (p .2)) w)
+
+    same-y : entry N l (y + k) ≡ entry N l₀ (y + k)
+    same-y = done .kept .same (y + k) (λ w. ⊎-elim (λ p. apart-at (p .0) k (omega arith) turn (sym (p .2))) (λ p. omega arith) w)
+
+    l₁ : List Value
+    l₁ = set l (x + k) a
+
+    pub rows-more : RowsTransformed N swap m x y (k + 1) l₀ (set (set l (x + k) a) (y + k) b)
+    unfolding l₁
+    rows-more = record {
+      firsts = below-more (λ j. entry N (set l₁ (y + k) b) (x + j) ≡ first N swap (entry N l₀ (x + j)) (entry N l₀ (y + j))) k
+          (λ j h. getD-set-other l₁ (y + k) (x + j) b absent (apart-at j k (omega arith) turn)
+          ∙ getD-set-other l (x + k) (x + j) a absent (λ e. omega arith) ∙ done .firsts j h)
+          (getD-set-other l₁ (y + k) (x + k) b absent (apart-at k k turn turn)
+          ∙ getD-set-same l (x + k) a absent (omega arith) ∙ is-a ∙ (λ i. first N swap (same-x i) (same-y i)));
+      seconds = below-more (λ j. entry N (set l₁ (y + k) b) (y + j) ≡ second N swap m (entry N l₀ (x + j)) (entry N l₀ (y + j))) k
+          (λ j h. getD-set-other l₁ (y + k) (y + j) b absent (λ e. omega arith)
+          ∙ getD-set-other l (x + k) (y + j) a absent (λ e. apart-at k j turn (omega arith) (sym e)) ∙ done .seconds j h)
+          (getD-set-same l₁ (y + k) b absent (rw length-set (omega arith)) ∙ is-b ∙ (λ i. second N swap m (same-x i) (same-y i)));
+      kept = record {
+        long = length-set l₁ (y + k) b ∙ length-set l (x + k) a ∙ done .kept .long;
+        same = λ q free. getD-set-other l₁ (y + k) q b absent (λ e. free (inr (k, omega arith, e)))
+            ∙ getD-set-other l (x + k) q a absent (λ e. free (inl (k, omega arith, e)))
+            ∙ done .kept .same q (λ w. free (⊎-elim (λ p. inl (p .0, omega arith, p .2)) (λ p. inr (p .0, omega arith, p .2)) w));
+      };
+    }

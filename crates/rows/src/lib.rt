@@ -1,3 +1,0 @@
-// Operations on rows and columns of factors in lent slices.
-pub mod columns;
-pub mod ranges;

@@ -1,0 +1,66 @@
+-- `drop_column`: as in replace column, with U's last column in its place.
+use borrow.Author.Needs.{needs}
+use Prim.Native.Nat.{_-_}
+use native.Mathlib.Omega.{arith}
+use lib.Ieee.{binary64}
+use denote.Ref.{now}
+use Rattle.numbers.specs.NumberForm.{ieee}
+use Rattle.numbers.specs.Tolerances.{tinyOf}
+use Rattle.stages.proofs.StageLaws.{column-dropped, last-column-dropped}
+use Rattle.stages.proofs.drop_column.Statement.{statement}
+use Rattle.stages.proofs.drop_column.Tie as tie
+
+sub-last : tie.Need-sub-last
+sub-last c = search needs
+
+read-u-column-requires : tie.Need-read-u-column-requires
+read-u-column-requires c κs = search needs
+
+add-write-u-column : tie.Need-add-write-u-column
+add-write-u-column c = search needs
+
+write-u-column-requires : tie.Need-write-u-column-requires
+write-u-column-requires c κs = search needs
+
+restore-requires : tie.Need-restore-requires
+restore-requires c κs = search needs
+
+same-length : tie.Need-same-length
+same-length c = search needs
+
+same-length-2 : tie.Need-same-length-2
+same-length-2 c = search needs
+
+same-length-3 : tie.Need-same-length-3
+same-length-3 c = search needs
+
+same-length-4 : tie.Need-same-length-4
+same-length-4 c = search needs
+
+returns : tie.Need-returns
+returns c =
+    let a = c .before .before .before .before .before .before .before .before .before .before .before .before .before .before .before .before .before .before .before .before .before .before .before .before .before .before .before .before .args in
+    let p = c .before .before .before .before .before .before .before .before .before .before .before .before .before .before .before .before .before .before .before .before .before .before .before .before .before .before .before .before .pre in
+    column-dropped (ieee binary64) (a .numerics .epsilon) (tinyOf binary64 (a .numerics .epsilon) (a .numerics .«update_tiny»)) (a .stride) (a .n) (a .column) (now (a .l)) (now (a .u)) (now (a .y)) (now (a .w)) _ _ (omega arith) (omega arith)
+    (c .before .before .before .before .before .before .before .before .before .before .before .before .before .before .before .before .before .before .before .before .read-u-column .ensures) (c .before .before .before .before .before .before .before .before .before .before .before .before .before .before .before .write-u-column .ensures) (c .before .before .before .before .before .before .before .before .restore .ensures)
+
+returns-2 : tie.Need-returns-2
+returns-2 c =
+    let a = c .before .before .before .before .before .args in
+    last-column-dropped (ieee binary64) (a .numerics .epsilon) (tinyOf binary64 (a .numerics .epsilon) (a .numerics .«update_tiny»)) (a .stride) (a .n) (a .column) (now (a .l)) (now (a .u)) (now (a .y)) (now (a .w)) (omega arith)
+
+pub drop-column-spec : {M : Type 1} → statement M
+drop-column-spec =
+    tie.close
+    (tie.spec
+    sub-last
+    read-u-column-requires
+    add-write-u-column
+    write-u-column-requires
+    restore-requires
+    same-length
+    same-length-2
+    same-length-3
+    same-length-4
+    returns
+    returns-2)

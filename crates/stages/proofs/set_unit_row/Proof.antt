@@ -1,0 +1,41 @@
+-- `set_unit_row`: zeros, and then the one.
+use borrow.Author.Needs.{needs}
+use Prim.Native.Nat.{_-_}
+use native.Mathlib.Omega.{arith}
+use lib.Ieee.{binary64}
+use denote.Ref.{now}
+use Rattle.numbers.specs.NumberForm.{ieee}
+use Rattle.storage.proofs.Places.{row-before, row-fits}
+use Rattle.stages.proofs.StageLaws.{unit-row-set}
+use Rattle.stages.proofs.set_unit_row.Statement.{statement}
+use Rattle.stages.proofs.set_unit_row.Tie as tie
+
+mul-fill : tie.Need-mul-fill
+mul-fill c = omega (arith, row-fits (c .before .before .args .stride) (c .before .before .args .row) (omega arith) (omega arith))
+
+fill-requires : tie.Need-fill-requires
+fill-requires c κs = let h = row-before (c .before .before .args .stride) (c .before .before .args .row) (c .before .before .args .stride) (omega arith) in omega arith
+
+l-index-requires : tie.Need-l-index-requires
+l-index-requires c κs = search needs
+
+mul-l : tie.Need-mul-l
+mul-l c = search needs
+
+slice-write-l : tie.Need-slice-write-l
+slice-write-l c = search needs
+
+same-length : tie.Need-same-length
+same-length c = search needs
+
+returns : tie.Need-returns
+returns c =
+    let a = c .before .before .before .before .before .before .args in
+    let p = c .before .before .before .before .before .before .pre in
+    let k = c .before .before .before .fill .ensures .kept .long in
+    unit-row-set (ieee binary64) (a .stride) (a .n) (a .row) (a .column) (c .l-index .result) (now (a .l)) (omega arith) (omega arith) (omega arith) (c .l-index .ensures .0) (omega arith) (c .before .before .before .fill .ensures)
+
+pub set-unit-row-spec : {M : Type 1} → statement M
+set-unit-row-spec =
+    tie.close
+    (tie.spec mul-fill fill-requires l-index-requires mul-l slice-write-l same-length returns)

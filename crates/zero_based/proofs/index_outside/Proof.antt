@@ -1,0 +1,29 @@
+-- `index_outside`: the two modes that use the index.
+use borrow.Author.Needs.{needs}
+use mathlib.Core.Path.{ap, _∙_}
+use Prim.Native.Nat.{_-_}
+use borrow.Author.Tests.{eq-eqb, ne-eqb}
+use mir.Facts.{toZ-ofZ}
+use lib.IntN.{ℤ}
+use Rattle.zero_based.specs.Numbers.{outside}
+use Rattle.zero_based.proofs.index_outside.Statement.{statement}
+use Rattle.zero_based.proofs.index_outside.Tie as tie
+
+outside-requires : tie.Need-outside-requires
+outside-requires c κs = search needs
+
+returns : tie.Need-returns
+returns c = rw (eq-eqb _ _ (c .before .if1 .taken)) (c .outside .ensures ∙ ap (λ (z : ℤ). outside z (c .before .before .args .n)) (toZ-ofZ (c .before .before .fits .index)))
+
+outside-requires-2 : tie.Need-outside-requires-2
+outside-requires-2 c κs = search needs
+
+returns-2 : tie.Need-returns-2
+returns-2 c = rw (ne-eqb _ _ (c .before .before .if1 .left), eq-eqb _ _ (c .before .if2 .taken)) (c .outside2 .ensures ∙ ap (λ (z : ℤ). outside z (c .before .before .before .args .n)) (toZ-ofZ (c .before .before .before .fits .index)))
+
+returns-3 : tie.Need-returns-3
+returns-3 c = simp (ne-eqb _ _ (c .before .if1 .left), ne-eqb _ _ (c .if2 .left))
+
+pub index-outside-spec : {M : Type 1} → statement M
+index-outside-spec =
+    tie.close (tie.spec outside-requires returns outside-requires-2 returns-2 returns-3)

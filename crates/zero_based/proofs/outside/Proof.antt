@@ -1,0 +1,19 @@
+-- `outside`: a negative index apart.
+use borrow.Author.Needs.{needs}
+use Prim.Native.Nat.{_-_}
+use Rattle.zero_based.specs.Numbers.{outside}
+use Rattle.zero_based.proofs.Sizes.{outside-negative, outside-whole}
+use Rattle.zero_based.proofs.outside.Statement.{statement}
+use Rattle.zero_based.proofs.outside.Tie as tie
+
+returns : tie.Need-returns
+returns c = outside-negative (c .before .args .index) (c .before .fits .index) (c .before .args .n) (c .if1 .taken)
+
+size-requires : tie.Need-size-requires
+size-requires c κs = search needs
+
+returns-2 : tie.Need-returns-2
+returns-2 c = outside-whole (c .before .before .args .index) (c .before .before .fits .index) (c .before .before .args .n) (c .before .if1 .left) (c .size .ensures .0)
+
+pub outside-spec : {M : Type 1} → statement M
+outside-spec = tie.close (tie.spec returns size-requires returns-2)

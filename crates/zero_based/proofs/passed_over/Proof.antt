@@ -1,0 +1,48 @@
+-- `passed_over`: test by test.
+use borrow.Author.Needs.{needs}
+use mathlib.Core.Path.{sym, ap, _∙_}
+use Prim.Native.Nat.{_-_}
+use borrow.Author.Tests.{lt-ltb, le-ltb, eq-eqb, ne-eqb}
+use mir.Facts.{toZ-ofZ}
+use lib.IntN.{ℤ}
+use Rattle.zero_based.specs.Refusals.{indexOutside, passedOver}
+use Rattle.zero_based.proofs.passed_over.Statement.{statement}
+use Rattle.zero_based.proofs.passed_over.Tie as tie
+
+returns : tie.Need-returns
+unfolding passedOver
+returns c = simp (eq-eqb _ _ (c .if1 .taken))
+
+returns-2 : tie.Need-returns-2
+unfolding passedOver
+returns-2 c = simp (ne-eqb _ _ (c .before .if1 .left), lt-ltb _ _ (c .if2 .taken))
+
+returns-3 : tie.Need-returns-3
+unfolding passedOver
+returns-3 c = simp (ne-eqb _ _ (c .before .before .if1 .left), le-ltb _ _ (c .before .if2 .left), lt-ltb _ _ (c .if3 .taken))
+
+index-outside-requires : tie.Need-index-outside-requires
+index-outside-requires c κs = search needs
+
+returns-4 : tie.Need-returns-4
+unfolding passedOver
+returns-4 c = let e = sym (c .before .index-outside .ensures ∙ ap (λ (z : ℤ). indexOutside (c .before .before .before .before .before .args .mode) 3 z (c .before .before .before .before .before .args .n)) (toZ-ofZ (c .before .before .before .before .before .fits .krow))) ∙ c .if4 .taken in simp (ne-eqb _ _ (c .before .before .before .before .if1 .left), le-ltb _ _ (c .before .before .before .if2 .left), le-ltb _ _ (c .before .before .if3 .left), e)
+
+index-outside-requires-2 : tie.Need-index-outside-requires-2
+index-outside-requires-2 c κs = search needs
+
+returns-5 : tie.Need-returns-5
+unfolding passedOver
+returns-5 c = let e = sym (c .before .before .index-outside .ensures ∙ ap (λ (z : ℤ). indexOutside (c .before .before .before .before .before .before .args .mode) 3 z (c .before .before .before .before .before .before .args .n)) (toZ-ofZ (c .before .before .before .before .before .before .fits .krow))) ∙ c .before .if4 .left in let f = c .index-outside2 .ensures ∙ ap (λ (z : ℤ). indexOutside (c .before .before .before .before .before .before .args .mode) 2 z (c .before .before .before .before .before .before .args .n)) (toZ-ofZ (c .before .before .before .before .before .before .fits .kcol)) in simp (ne-eqb _ _ (c .before .before .before .before .before .if1 .left), le-ltb _ _ (c .before .before .before .before .if2 .left), le-ltb _ _ (c .before .before .before .if3 .left), e, f)
+
+pub passed-over-spec : {M : Type 1} → statement M
+passed-over-spec =
+    tie.close
+    (tie.spec
+    returns
+    returns-2
+    returns-3
+    index-outside-requires
+    returns-4
+    index-outside-requires-2
+    returns-5)
