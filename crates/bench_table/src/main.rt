@@ -1,6 +1,7 @@
-// Document 01's bench table, computed by the code: a line for each row whose code is here.
+// Document 01's bench table, computed by the code: a line for each row.
 ghost use Prim.Native.Nat.{_<_, _≤_};
 
+mod factors;
 mod print;
 
 use numerics::pair::elementary;
@@ -72,4 +73,11 @@ fn main() {
     pair(1.0, -2.0);
     pair(3.0, -3.0);
     pair(0.0 / 0.0, 0.0);
+    factors::p();
+    factors::solved(1, 8.0, 5.0);
+    factors::solved(2, 6.0, 7.0);
+    factors::replaced(2, 1.0, 8.0);
+    factors::replaced(3, 1.0, 1.0);
+    factors::removed();
+    factors::refused();
 }

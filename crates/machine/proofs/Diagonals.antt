@@ -46,6 +46,17 @@ module _ (N : NumberForm) (U : Table (N .Value)) where
           let f = ih (p ∙ q) in
           record { i = f .i; below = omega (arith, f .below); named = f .named; sound-before = f .sound-before }
 
+  -- a search upward: another sound diagonal, and the first bad one
+  pub one-more-sound : (k : ℕ) → diagonals N U k ≡ none → badDiagonal N (U k k) k ≡ none → diagonals N U (suc k) ≡ none
+  unfolding diagonals
+  one-more-sound k e f = λ t. e t orElse f t
+
+  pub first-named : (k i : ℕ) (a : Answer) → i < k → diagonals N U i ≡ none → badDiagonal N (U i i) i ≡ some a → diagonals N U k ≡ some a
+  unfolding diagonals
+  first-named zero i a h e f = absurd (omega arith)
+  first-named (suc k) i a h e f =
+      ⊎-elim (λ p. rw (← p) (λ t. e t orElse f t)) (λ l. (λ t. first-named k i a l e f t orElse badDiagonal N (U k k) k)) (eq-or-lt-of-le (le-of-suc-le-suc h))
+
 -- the refusal of a solve whose right-hand side is n long
 module _ (N : NumberForm) (S : State (N .Value)) (b : List (N .Value)) (long : length b ≡ S .n) where
   pub solve-refusal : refusal N S (solve b) ≡ diagonals N (S .U) (S .n)

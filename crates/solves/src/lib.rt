@@ -1,3 +1,4 @@
-// The parts of a solve: products with L, and substitutions with U.
+// The parts of a solve: products with L, substitutions with U, and the search for a diagonal that none can divide by.
+pub mod diagonal;
 pub mod products;
 pub mod substitution;
