@@ -1,5 +1,6 @@
 -- Parts of a row of the packed triangle U, and their places.
 use mathlib.Core.Path.{_≡_, sym, ap, _∙_}
+use mathlib.Core.Logic.{_⊎_, inl, inr}
 use Prim.Native.Nat.{ℕ, _+_, _-_, _≤_, _<_}
 use native.Mathlib.Decide.{decLt}
 use native.Mathlib.Omega.{arith}
@@ -28,3 +29,11 @@ module _ (c row a count p : ℕ) (ha : row ≤ a) (hc : a + count ≤ c) (is-p :
       go : Dec (0 < count) → p + count ≤ length
       go (yes g) = omega (arith, part-place (count - 1) (omega arith), uIndex-within c row (a + (count - 1)) (omega arith) (omega arith))
       go (no g) = omega (arith, is-p, uIndex-within c row a ha h)
+
+-- two ranges of one length have no place in common, whichever is the earlier
+pub ranges-apart : (x y n : ℕ) → (y < x + n → y + n ≤ x) → (x + n ≤ y) ⊎ (y + n ≤ x)
+ranges-apart x y n h = go (decLt y (x + n))
+  where
+    go : Dec (y < x + n) → (x + n ≤ y) ⊎ (y + n ≤ x)
+    go (yes a) = inr (h a)
+    go (no a) = inl (omega arith)

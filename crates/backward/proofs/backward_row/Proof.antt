@@ -1,7 +1,6 @@
 -- `backward_row`: dense is cleared; then the row is skipped, or the pair step is made and applied.
 use borrow.Author.Needs.{needs}
 use mathlib.Core.Path.{refl, _∙_}
-use mathlib.Core.Logic.{inr}
 use Prim.Native.Nat.{_-_}
 use native.Mathlib.Omega.{arith}
 use lib.Ieee.{binary64}
@@ -12,7 +11,7 @@ use Rattle.numbers.specs.Tolerances.{tinyOf}
 use Rattle.machine.specs.Backward.{clearDense, backwardTransform}
 use Rattle.machine.proofs.Backward.{backward-transform-same}
 use Rattle.storage.proofs.Places.{row-before, row-fits}
-use Rattle.forward.proofs.RowParts.{part-fits}
+use Rattle.forward.proofs.RowParts.{part-fits, ranges-apart}
 use Rattle.forward.proofs.Buffers.{performed-then, performed-as, performed-from}
 use Rattle.backward.proofs.BackwardRow.{dense-cleared, backward-transformed, backward-skips, backward-acts}
 use Rattle.backward.proofs.backward_row.Statement.{statement}
@@ -84,10 +83,10 @@ transform-slices-requires c κs =
     )
 
 mul-transform-rows : tie.Need-mul-transform-rows
-mul-transform-rows c = let p = c .before .before .before .before .before .before .before .before .before .before .before .before .before .before .before .before .before .before .before .before .before .before .pre in omega (arith, row-fits (c .before .before .before .before .before .before .before .before .before .before .before .before .before .before .before .before .before .before .before .before .before .before .args .stride) (c .before .before .before .before .before .before .before .before .before .before .before .before .before .before .before .before .before .before .before .before .before .before .args .selected) (omega arith) (omega arith))
+mul-transform-rows c = let p = c .before .before .before .before .before .before .before .before .before .before .before .before .before .before .before .before .before .before .before .before .before .before .pre in omega (arith, row-fits (c .before .before .before .before .before .before .before .before .before .before .before .before .before .before .before .before .before .before .before .before .before .before .args .stride) (c .before .before .before .before .before .before .before .before .before .before .before .before .before .before .before .before .before .before .before .before .before .before .args .selected) (omega arith) (omega arith), row-fits (c .before .before .before .before .before .before .before .before .before .before .before .before .before .before .before .before .before .before .before .before .before .before .args .stride) (c .before .before .before .before .before .before .before .before .before .before .before .before .before .before .before .before .before .before .before .before .before .before .args .row) (omega arith) (omega arith))
 
 mul-transform-rows-2 : tie.Need-mul-transform-rows-2
-mul-transform-rows-2 c = let p = c .before .before .before .before .before .before .before .before .before .before .before .before .before .before .before .before .before .before .before .before .before .before .pre in omega (arith, row-fits (c .before .before .before .before .before .before .before .before .before .before .before .before .before .before .before .before .before .before .before .before .before .before .args .stride) (c .before .before .before .before .before .before .before .before .before .before .before .before .before .before .before .before .before .before .before .before .before .before .args .row) (omega arith) (omega arith))
+mul-transform-rows-2 c = let p = c .before .before .before .before .before .before .before .before .before .before .before .before .before .before .before .before .before .before .before .before .before .before .pre in omega (arith, row-fits (c .before .before .before .before .before .before .before .before .before .before .before .before .before .before .before .before .before .before .before .before .before .before .args .stride) (c .before .before .before .before .before .before .before .before .before .before .before .before .before .before .before .before .before .before .before .before .before .before .args .selected) (omega arith) (omega arith), row-fits (c .before .before .before .before .before .before .before .before .before .before .before .before .before .before .before .before .before .before .before .before .before .before .args .stride) (c .before .before .before .before .before .before .before .before .before .before .before .before .before .before .before .before .before .before .before .before .before .before .args .row) (omega arith) (omega arith))
 
 transform-rows-requires : tie.Need-transform-rows-requires
 transform-rows-requires c κs =
@@ -95,7 +94,7 @@ transform-rows-requires c κs =
     let h = c .before .before .before .before .before .before .before .before .before .before .before .before .before .before .before .before .before .before .before .before .before .before .pre in
     let p = row-before (a .stride) (a .row) (a .selected) (omega arith) in
     let q = row-before (a .stride) (a .selected) (a .stride) (omega arith) in
-    (inr (omega arith), (omega arith, omega arith))
+    (ranges-apart _ _ _ (λ e. omega arith), (omega arith, omega arith))
 
 same-length-2 : tie.Need-same-length-2
 same-length-2 c = c .before .before .transform-rows .ensures .kept .long

@@ -1,7 +1,6 @@
 -- `forward_row`: where the guard fails nothing changes, and otherwise the pair step is made and applied.
 use borrow.Author.Needs.{needs}
 use mathlib.Core.Path.{_∙_}
-use mathlib.Core.Logic.{inl}
 use Prim.Native.Nat.{_-_}
 use native.Mathlib.Omega.{arith}
 use lib.Ieee.{binary64}
@@ -11,7 +10,7 @@ use Rattle.numbers.specs.NumberForm.{ieee}
 use Rattle.numbers.specs.Tolerances.{tinyOf}
 use Rattle.machine.specs.Forward.{forwardTransform}
 use Rattle.storage.proofs.Places.{row-before, row-fits}
-use Rattle.forward.proofs.RowParts.{part-fits}
+use Rattle.forward.proofs.RowParts.{part-fits, ranges-apart}
 use Rattle.forward.proofs.Buffers.{performed-none, performed-as}
 use Rattle.forward.proofs.ForwardRow.{forward-transformed, forward-acts, forward-passes}
 use Rattle.forward.proofs.forward_row.Statement.{statement}
@@ -73,10 +72,10 @@ transform-slices-requires c κs =
     simp length-set (omega arith)
 
 mul-transform-rows : tie.Need-mul-transform-rows
-mul-transform-rows c = let p = c .before .before .before .before .before .before .before .before .before .before .before .before .before .before .before .before .before .before .before .before .before .pre in omega (arith, row-fits (c .before .before .before .before .before .before .before .before .before .before .before .before .before .before .before .before .before .before .before .before .before .args .stride) (c .before .before .before .before .before .before .before .before .before .before .before .before .before .before .before .before .before .before .before .before .before .args .row) (omega arith) (omega arith))
+mul-transform-rows c = let p = c .before .before .before .before .before .before .before .before .before .before .before .before .before .before .before .before .before .before .before .before .before .pre in omega (arith, row-fits (c .before .before .before .before .before .before .before .before .before .before .before .before .before .before .before .before .before .before .before .before .before .args .stride) (c .before .before .before .before .before .before .before .before .before .before .before .before .before .before .before .before .before .before .before .before .before .args .row) (omega arith) (omega arith), row-fits (c .before .before .before .before .before .before .before .before .before .before .before .before .before .before .before .before .before .before .before .before .before .args .stride) (c .before .before .before .before .before .before .before .before .before .before .before .before .before .before .before .before .before .before .before .before .before .args .last) (omega arith) (omega arith))
 
 mul-transform-rows-2 : tie.Need-mul-transform-rows-2
-mul-transform-rows-2 c = let p = c .before .before .before .before .before .before .before .before .before .before .before .before .before .before .before .before .before .before .before .before .before .pre in omega (arith, row-fits (c .before .before .before .before .before .before .before .before .before .before .before .before .before .before .before .before .before .before .before .before .before .args .stride) (c .before .before .before .before .before .before .before .before .before .before .before .before .before .before .before .before .before .before .before .before .before .args .last) (omega arith) (omega arith))
+mul-transform-rows-2 c = let p = c .before .before .before .before .before .before .before .before .before .before .before .before .before .before .before .before .before .before .before .before .before .pre in omega (arith, row-fits (c .before .before .before .before .before .before .before .before .before .before .before .before .before .before .before .before .before .before .before .before .before .args .stride) (c .before .before .before .before .before .before .before .before .before .before .before .before .before .before .before .before .before .before .before .before .before .args .row) (omega arith) (omega arith), row-fits (c .before .before .before .before .before .before .before .before .before .before .before .before .before .before .before .before .before .before .before .before .before .args .stride) (c .before .before .before .before .before .before .before .before .before .before .before .before .before .before .before .before .before .before .before .before .before .args .last) (omega arith) (omega arith))
 
 transform-rows-requires : tie.Need-transform-rows-requires
 transform-rows-requires c κs =
@@ -84,7 +83,7 @@ transform-rows-requires c κs =
     let h = c .before .before .before .before .before .before .before .before .before .before .before .before .before .before .before .before .before .before .before .before .before .pre in
     let p = row-before (a .stride) (a .row) (a .last) (omega arith) in
     let q = row-before (a .stride) (a .last) (a .stride) (omega arith) in
-    (inl (omega arith), (omega arith, omega arith))
+    (ranges-apart _ _ _ (λ e. omega arith), (omega arith, omega arith))
 
 same-length : tie.Need-same-length
 same-length c = c .before .before .transform-rows .ensures .kept .long
