@@ -31,7 +31,7 @@ pub fn clear_l_column(l: &mut [f64], column: usize, rows: usize, stride: usize)
     }
 }
 
-// L(i, to) takes L(i, from) for i below rows.
+// L(i, target) takes L(i, source) for i below rows.
 pub fn copy_l_column(l: &mut [f64], source: usize, target: usize, rows: usize, stride: usize)
     requires { ⌜ (source < stride) × ((target < stride) × ((rows ≤ stride) × ((stride < 2 ^ 32) × (stride * stride ≤ length (now l))))) ⌝ }
     ensures { λ _. ⌜ Written (ieee binary64) (λ i. lIndex stride i target) rows (λ i. viewL (ieee binary64) stride (now (l .entry)) i source) (now (l .entry)) (now (l .exit)) ⌝ }

@@ -31,15 +31,18 @@ u-index-requires : tie.Need-u-index-requires
 u-index-requires c κs = let p = c .before .before .before .before .before .before .before .before .before .before .before .before .before .before .before .before .before .before .before .before .before .before .before .pre in omega arith
 
 mul-u : tie.Need-mul-u
-mul-u c = let p = c .before .before .before .before .before .before .before .before .before .before .before .before .before .before .before .before .before .before .before .before .before .before .before .before .pre in let k = c .before .before .before .write-u-column .ensures .kept .long in let g = c .before .before .before .before .before .before .before .before .before .before .before .before .before .before .before .before .before .before .before .before .before .before .before .before .good in omega arith
+mul-u c =
+    let start = c .before .before .before .before .before .before .before .before .before .before .before .before .before .before .before .before .before .before .before .before .before .before .before .before in
+    let p = start .pre in let k = c .before .before .before .write-u-column .ensures .kept .long in let g = start .good in omega arith
 
 slice-write-u : tie.Need-slice-write-u
 slice-write-u c = search needs
 
 forward-requires : tie.Need-forward-requires
 forward-requires c κs =
-    let a = c .before .before .before .before .before .before .before .before .before .before .before .before .before .before .before .before .before .before .before .before .before .before .before .before .before .before .before .args in
-    let p = c .before .before .before .before .before .before .before .before .before .before .before .before .before .before .before .before .before .before .before .before .before .before .before .before .before .before .before .pre in (
+    let start = c .before .before .before .before .before .before .before .before .before .before .before .before .before .before .before .before .before .before .before .before .before .before .before .before .before .before .before in
+    let a = start .args in
+    let p = start .pre in (
       record { stride = p .0 .stride; dimension = p .0 .dimension; l-long = rw (c .before .before .before .before .before .before .before .before .before .before .before .set-unit-row .ensures .kept .long, c .before .before .before .before .before .before .before .before .before .before .before .before .before .before .before .clear-l-column .ensures .kept .long) (p .0 .l-long); u-long = rw (length-set, c .before .before .before .before .before .before .write-u-column .ensures .kept .long) (p .0 .u-long) },
       (omega arith, (omega arith, (omega arith, (omega arith, omega arith)))),
     )
@@ -58,11 +61,14 @@ same-length-4 c = search needs
 
 returns : tie.Need-returns
 returns c =
-    let a = c .before .before .before .before .before .before .before .before .before .before .before .before .before .before .before .before .before .before .before .before .before .before .before .before .before .before .before .before .before .before .before .before .before .before .args in
-    let p = c .before .before .before .before .before .before .before .before .before .before .before .before .before .before .before .before .before .before .before .before .before .before .before .before .before .before .before .before .before .before .before .before .before .before .pre in
-    let k = c .before .before .before .before .before .before .before .before .before .before .before .before .before .write-u-column .ensures .kept .long in
-    push-done (ieee binary64) (a .numerics .epsilon) (tinyOf binary64 (a .numerics .epsilon) (a .numerics .«update_tiny»)) (a .stride) (a .n) (c .before .before .before .before .before .before .before .before .before .before .u-index .result) (now (a .l)) (now (a .u)) (now (a .y)) (now (a .z)) (now (a .w)) _ _ _ _ (omega arith) (omega arith)
-    (c .before .before .before .before .before .before .before .before .before .before .before .before .before .before .before .before .before .before .before .before .before .before .before .before .before .before .l-product .ensures) (c .before .before .before .before .before .before .before .before .before .before .before .before .before .before .before .before .before .before .before .before .before .before .clear-l-column .ensures) (c .before .before .before .before .before .before .before .before .before .before .before .before .before .before .before .before .before .before .set-unit-row .ensures) (c .before .before .before .before .before .before .before .before .before .before .before .before .before .write-u-column .ensures) (c .before .before .before .before .before .before .before .before .before .before .u-index .ensures .0) (omega arith) (c .before .before .before .before .before .before .forward .ensures)
+    let start = c .before .before .before .before .before .before .before .before .before .before .before .before .before .before .before .before .before .before .before .before .before .before .before .before .before .before .before .before .before .before .before .before .before .before in
+    let write-u-column = c .before .before .before .before .before .before .before .before .before .before .before .before .before .write-u-column in
+    let u-index = c .before .before .before .before .before .before .before .before .before .before .u-index in
+    let a = start .args in
+    let p = start .pre in
+    let k = write-u-column .ensures .kept .long in
+    push-done (ieee binary64) (a .numerics .epsilon) (tinyOf binary64 (a .numerics .epsilon) (a .numerics .«update_tiny»)) (a .stride) (a .n) (u-index .result) (now (a .l)) (now (a .u)) (now (a .y)) (now (a .z)) (now (a .w)) _ _ _ _ (omega arith) (omega arith)
+    (c .before .before .before .before .before .before .before .before .before .before .before .before .before .before .before .before .before .before .before .before .before .before .before .before .before .before .l-product .ensures) (c .before .before .before .before .before .before .before .before .before .before .before .before .before .before .before .before .before .before .before .before .before .before .clear-l-column .ensures) (c .before .before .before .before .before .before .before .before .before .before .before .before .before .before .before .before .before .before .set-unit-row .ensures) (write-u-column .ensures) (u-index .ensures .0) (omega arith) (c .before .before .before .before .before .before .forward .ensures)
 
 pub push-spec : {M : Type 1} → statement M
 push-spec =

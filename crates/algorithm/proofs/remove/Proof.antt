@@ -24,8 +24,9 @@ copy-l-column-requires c κs = search needs
 
 backward-requires : tie.Need-backward-requires
 backward-requires c κs =
-    let a = c .before .before .before .before .before .before .before .before .before .before .before .before .before .before .before .before .before .before .before .before .before .before .before .before .before .before .before .before .before .before .before .args in
-    let p = c .before .before .before .before .before .before .before .before .before .before .before .before .before .before .before .before .before .before .before .before .before .before .before .before .before .before .before .before .before .before .before .pre in
+    let start = c .before .before .before .before .before .before .before .before .before .before .before .before .before .before .before .before .before .before .before .before .before .before .before .before .before .before .before .before .before .before .before in
+    let a = start .args in
+    let p = start .pre in
     let d = c .before .before .before .before .before .before .before .before .before .before .before .before .before .before .before .before .before .before .before .before .before .drop-column .ensures in (
       record { stride = p .0 .stride; dimension = p .0 .dimension; l-long = rw (c .before .before .before .before .before .before .copy-l-column .ensures .kept .long, d .l-kept .long) (p .0 .l-long); u-long = rw (d .u-kept .long) (p .0 .u-long) },
       (omega arith, (rw (c .before .before .before .before .before .before .before .before .before .before .read-l-column .ensures .kept .long, d .w-kept .long) (omega arith), (omega arith, (omega arith, (omega arith, omega arith))))),
@@ -48,8 +49,9 @@ same-length-5 c = search needs
 
 returns : tie.Need-returns
 returns c =
-    let a = c .before .before .before .before .before .before .before .before .before .before .before .before .before .before .before .before .before .before .before .before .before .before .before .before .before .before .before .before .before .before .before .before .before .before .before .before .before .before .before .before .args in
-    let p = c .before .before .before .before .before .before .before .before .before .before .before .before .before .before .before .before .before .before .before .before .before .before .before .before .before .before .before .before .before .before .before .before .before .before .before .before .before .before .before .before .pre in
+    let start = c .before .before .before .before .before .before .before .before .before .before .before .before .before .before .before .before .before .before .before .before .before .before .before .before .before .before .before .before .before .before .before .before .before .before .before .before .before .before .before .before in
+    let a = start .args in
+    let p = start .pre in
     remove-done (ieee binary64) (a .numerics .epsilon) (tinyOf binary64 (a .numerics .epsilon) (a .numerics .«update_tiny»)) (a .stride) (a .n) (a .row) (a .column) (now (a .l)) (now (a .u)) (now (a .y)) (now (a .z)) (now (a .w)) _ _ _ _ _ (omega arith) (omega arith)
     (c .before .before .before .before .before .before .before .before .before .before .before .before .before .before .before .before .before .before .before .before .before .before .before .before .before .before .before .before .before .before .drop-column .ensures) (c .before .before .before .before .before .before .before .before .before .before .before .before .before .before .before .before .before .before .before .read-l-column .ensures) (c .before .before .before .before .before .before .before .before .before .before .before .before .before .before .before .copy-l-column .ensures) (c .before .before .before .before .before .before .before .before .backward .ensures)
 

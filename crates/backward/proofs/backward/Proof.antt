@@ -23,8 +23,9 @@ sub-copy c = search needs
 
 copy-requires : tie.Need-copy-requires
 copy-requires c κs =
-    let a = c .before .before .before .before .before .before .before .args in
-    let p = c .before .before .before .before .before .before .before .pre in
+    let start = c .before .before .before .before .before .before .before in
+    let a = start .args in
+    let p = start .pre in
     let d = c .before .before .u-index in
     (omega arith, part-fits (a .stride) (a .selected) (a .selected) (a .columns - a .selected) (d .result) (omega arith) (omega arith) (d .ensures .0) _ (omega arith) (omega arith))
 
@@ -48,8 +49,9 @@ same-length-4 c = c .before .before .before .before .before .before .before .bef
 returns : tie.Need-returns
 unfolding backward
 returns c =
-    let a = c .before .before .before .before .before .before .before .before .before .before .before .before .before .before .before .before .before .before .before .before .before .before .before .args in
-    let p = c .before .before .before .before .before .before .before .before .before .before .before .before .before .before .before .before .before .before .before .before .before .before .before .pre in
+    let start = c .before .before .before .before .before .before .before .before .before .before .before .before .before .before .before .before .before .before .before .before .before .before .before in
+    let a = start .args in
+    let p = start .pre in
     let d = c .before .before .before .before .before .before .before .before .before .before .before .before .before .before .before .before .before .before .u-index in
     performed-then (ieee binary64)
     (row-copied (ieee binary64) (a .stride) (a .n) (a .columns) (a .selected) (d .result) _ _ _ _ (omega arith) (omega arith) (omega arith) (d .ensures .0) (c .before .before .before .before .before .before .before .before .before .before .before .before .before .before .before .copy .ensures))

@@ -46,8 +46,9 @@ same-length c = simp length-set
 
 returns : tie.Need-returns
 returns c =
-    let a = c .before .before .before .before .before .before .before .before .before .before .args in
-    let p = c .before .before .before .before .before .before .before .before .before .before .pre in
+    let start = c .before .before .before .before .before .before .before .before .before .before in
+    let a = start .args in
+    let p = start .pre in
     performed-as (ieee binary64) (clearDense (ieee binary64) (a .row))
     (backward-skips (ieee binary64) (a .numerics .epsilon) (tinyOf binary64 (a .numerics .epsilon) (a .numerics .«update_tiny»)) (a .stride) (a .row) (a .selected) (a .columns) (now (a .l)) (now (a .u)) (now (a .y)) (now (a .v)) (c .before .before .abs2 .ensures) (c .before .before .before .abs .ensures) (c .if1 .taken))
     (performed-from (ieee binary64) (omega arith) (dense-cleared (ieee binary64) (a .stride) (a .n) (a .columns) (a .row) (a .n) _ _ _ _ (omega arith) (omega arith) (omega arith)))
@@ -75,23 +76,29 @@ sub-transform-slices c = let p = c .before .before .before .before .before .befo
 
 transform-slices-requires : tie.Need-transform-slices-requires
 transform-slices-requires c κs =
-    let a = c .before .before .before .before .before .before .before .before .before .before .before .before .before .before .before .before .args in
-    let p = c .before .before .before .before .before .before .before .before .before .before .before .before .before .before .before .before .pre in
+    let start = c .before .before .before .before .before .before .before .before .before .before .before .before .before .before .before .before in
+    let a = start .args in
+    let p = start .pre in
     let d = c .before .before .u-index in (
       simp length-set (omega arith),
       part-fits (a .stride) (a .row) (a .row) (a .columns - a .row) (d .result) (omega arith) (omega arith) (d .ensures .0) (length (now (a .u))) (omega arith) (omega arith),
     )
 
 mul-transform-rows : tie.Need-mul-transform-rows
-mul-transform-rows c = let p = c .before .before .before .before .before .before .before .before .before .before .before .before .before .before .before .before .before .before .before .before .before .before .pre in omega (arith, row-fits (c .before .before .before .before .before .before .before .before .before .before .before .before .before .before .before .before .before .before .before .before .before .before .args .stride) (c .before .before .before .before .before .before .before .before .before .before .before .before .before .before .before .before .before .before .before .before .before .before .args .selected) (omega arith) (omega arith), row-fits (c .before .before .before .before .before .before .before .before .before .before .before .before .before .before .before .before .before .before .before .before .before .before .args .stride) (c .before .before .before .before .before .before .before .before .before .before .before .before .before .before .before .before .before .before .before .before .before .before .args .row) (omega arith) (omega arith))
+mul-transform-rows c =
+    let start = c .before .before .before .before .before .before .before .before .before .before .before .before .before .before .before .before .before .before .before .before .before .before in
+    let p = start .pre in omega (arith, row-fits (start .args .stride) (start .args .selected) (omega arith) (omega arith), row-fits (start .args .stride) (start .args .row) (omega arith) (omega arith))
 
 mul-transform-rows-2 : tie.Need-mul-transform-rows-2
-mul-transform-rows-2 c = let p = c .before .before .before .before .before .before .before .before .before .before .before .before .before .before .before .before .before .before .before .before .before .before .pre in omega (arith, row-fits (c .before .before .before .before .before .before .before .before .before .before .before .before .before .before .before .before .before .before .before .before .before .before .args .stride) (c .before .before .before .before .before .before .before .before .before .before .before .before .before .before .before .before .before .before .before .before .before .before .args .selected) (omega arith) (omega arith), row-fits (c .before .before .before .before .before .before .before .before .before .before .before .before .before .before .before .before .before .before .before .before .before .before .args .stride) (c .before .before .before .before .before .before .before .before .before .before .before .before .before .before .before .before .before .before .before .before .before .before .args .row) (omega arith) (omega arith))
+mul-transform-rows-2 c =
+    let start = c .before .before .before .before .before .before .before .before .before .before .before .before .before .before .before .before .before .before .before .before .before .before in
+    let p = start .pre in omega (arith, row-fits (start .args .stride) (start .args .selected) (omega arith) (omega arith), row-fits (start .args .stride) (start .args .row) (omega arith) (omega arith))
 
 transform-rows-requires : tie.Need-transform-rows-requires
 transform-rows-requires c κs =
-    let a = c .before .before .before .before .before .before .before .before .before .before .before .before .before .before .before .before .before .before .before .before .before .before .args in
-    let h = c .before .before .before .before .before .before .before .before .before .before .before .before .before .before .before .before .before .before .before .before .before .before .pre in
+    let start = c .before .before .before .before .before .before .before .before .before .before .before .before .before .before .before .before .before .before .before .before .before .before in
+    let a = start .args in
+    let h = start .pre in
     let p = row-before (a .stride) (a .row) (a .selected) (omega arith) in
     let q = row-before (a .stride) (a .selected) (a .stride) (omega arith) in
     (ranges-apart _ _ _ (λ e. omega arith), (omega arith, omega arith))
@@ -110,8 +117,10 @@ same-length-5 c = simp length-set
 
 returns-2 : tie.Need-returns-2
 returns-2 c =
-    let a = c .before .before .before .before .before .before .before .before .before .before .before .before .before .before .before .before .before .before .before .before .before .before .before .before .before .args in
-    let p = c .before .before .before .before .before .before .before .before .before .before .before .before .before .before .before .before .before .before .before .before .before .before .before .before .before .pre in
+    let start = c .before .before .before .before .before .before .before .before .before .before .before .before .before .before .before .before .before .before .before .before .before .before .before .before .before in
+    let transform-slices = c .before .before .before .before .before .before .before .before .transform-slices in
+    let a = start .args in
+    let p = start .pre in
     let d = c .before .before .before .before .before .before .before .before .before .before .before .u-index in
     let s = c .before .before .before .before .before .before .before .before .before .before .before .before .elementary in
     performed-as (ieee binary64) (λ S. backwardTransform (ieee binary64) (a .selected) (a .columns) (a .row) _ (clearDense (ieee binary64) (a .row) S))
@@ -119,7 +128,7 @@ returns-2 c =
     (performed-then (ieee binary64) (performed-from (ieee binary64) (omega arith) (dense-cleared (ieee binary64) (a .stride) (a .n) (a .columns) (a .row) (a .n) _ _ _ _ (omega arith) (omega arith) (omega arith)))
     (backward-transformed (ieee binary64) (a .stride) (a .n) (a .columns) (a .row) (a .selected) (d .result) _ _ _ _ _ _ _ _
     (omega arith) (omega arith) (omega arith) (omega arith) (omega arith) (d .ensures .0) (omega arith) (s .ensures .cleared)
-    (c .before .before .before .before .before .before .before .before .transform-slices .ensures .0) (c .before .before .before .before .before .before .before .before .transform-slices .ensures .1) (c .before .before .transform-rows .ensures))
+    (transform-slices .ensures .0) (transform-slices .ensures .1) (c .before .before .transform-rows .ensures))
     (omega arith)
     (λ S R. backward-transform-same (ieee binary64) (a .numerics .epsilon) (tinyOf binary64 (a .numerics .epsilon) (a .numerics .«update_tiny»)) (a .n) (a .columns) (omega arith) (a .selected) (a .row) refl (omega arith) (omega arith)))
 

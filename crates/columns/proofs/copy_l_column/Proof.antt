@@ -48,7 +48,9 @@ loop-less : tie.Need-loop-less Inv-loop μ-loop
 loop-less c = omega arith
 
 loop-again : tie.Need-loop-again Inv-loop μ-loop
-loop-again c = (omega arith, stored (ieee binary64) (λ j. lIndex-column-apart _ _ _ j (omega arith)) (c .before .before .before .before .loop .inv .1) (c .l-index2 .ensures .0) (omega arith) (rw (c .before .before .l-index .ensures .0) (row-unwritten (ieee binary64) _ _ _ (omega arith) (omega arith) (c .before .before .before .before .loop .inv .1))))
+loop-again c =
+    let loop = c .before .before .before .before .loop in
+    (omega arith, stored (ieee binary64) (λ j. lIndex-column-apart _ _ _ j (omega arith)) (loop .inv .1) (c .l-index2 .ensures .0) (omega arith) (rw (c .before .before .l-index .ensures .0) (row-unwritten (ieee binary64) _ _ _ (omega arith) (omega arith) (loop .inv .1))))
 
 same-length : tie.Need-same-length Inv-loop μ-loop
 same-length c = c .before .loop .inv .1 .kept .long

@@ -41,16 +41,18 @@ loop-less c = omega arith
 
 loop-again : tie.Need-loop-again Inv-loop μ-loop
 loop-again c =
-    let a = c .before .before .before .before .before .before .before .before .before .before .before .before .before .before .before .args in
-    let p = c .before .before .before .before .before .before .before .before .before .before .before .before .before .before .before .pre in
-    let h = c .before .before .before .before .before .before .before .before .before .before .before .loop .inv in (
+    let start = c .before .before .before .before .before .before .before .before .before .before .before .before .before .before .before in
+    let loop = c .before .before .before .before .before .before .before .before .before .before .before .loop in
+    let a = start .args in
+    let p = start .pre in
+    let h = loop .inv in (
       omega arith,
       (
         omega arith,
-        performed-as (ieee binary64) (λ S. forwardRow (ieee binary64) (a .numerics .epsilon) (tinyOf binary64 (a .numerics .epsilon) (a .numerics .«update_tiny»)) (a .last) (a .columns) (c .before .before .before .before .before .before .before .before .before .before .before .loop .row) (forwardRows (ieee binary64) (a .numerics .epsilon) (tinyOf binary64 (a .numerics .epsilon) (a .numerics .«update_tiny»)) (a .first) (a .last) (a .columns) (c .before .before .before .before .before .before .before .before .before .before .before .loop .row - a .first) S))
-            (forward-rows-more (ieee binary64) (a .numerics .epsilon) (tinyOf binary64 (a .numerics .epsilon) (a .numerics .«update_tiny»)) (a .first) (a .last) (a .columns) (c .before .before .before .before .before .before .before .before .before .before .before .loop .row) _ (h .0))
+        performed-as (ieee binary64) (λ S. forwardRow (ieee binary64) (a .numerics .epsilon) (tinyOf binary64 (a .numerics .epsilon) (a .numerics .«update_tiny»)) (a .last) (a .columns) (loop .row) (forwardRows (ieee binary64) (a .numerics .epsilon) (tinyOf binary64 (a .numerics .epsilon) (a .numerics .«update_tiny»)) (a .first) (a .last) (a .columns) (loop .row - a .first) S))
+            (forward-rows-more (ieee binary64) (a .numerics .epsilon) (tinyOf binary64 (a .numerics .epsilon) (a .numerics .«update_tiny»)) (a .first) (a .last) (a .columns) (loop .row) _ (h .0))
             (performed-then (ieee binary64) (h .1 .1) (c .before .before .before .before .before .before .forward-row .ensures) (omega arith)
-            (λ S R. forward-row-same (ieee binary64) (a .numerics .epsilon) (tinyOf binary64 (a .numerics .epsilon) (a .numerics .«update_tiny»)) (a .n) (a .columns) 0 (omega arith) (a .last) (c .before .before .before .before .before .before .before .before .before .before .before .loop .row) 0 (omega arith) (omega arith) (omega arith))),
+            (λ S R. forward-row-same (ieee binary64) (a .numerics .epsilon) (tinyOf binary64 (a .numerics .epsilon) (a .numerics .«update_tiny»)) (a .n) (a .columns) 0 (omega arith) (a .last) (loop .row) 0 (omega arith) (omega arith) (omega arith))),
       ),
     )
 
@@ -62,8 +64,9 @@ sub-copy c = omega arith
 
 copy-requires : tie.Need-copy-requires Inv-loop μ-loop
 copy-requires c κs =
-    let a = c .before .before .before .before .before .before .before .before .args in
-    let p = c .before .before .before .before .before .before .before .before .pre in
+    let start = c .before .before .before .before .before .before .before .before in
+    let a = start .args in
+    let p = start .pre in
     let k = c .before .before .before .before .loop .inv .1 .1 in
     let d = c .before .before .u-index in
     let e = k .u-kept .long in
@@ -82,11 +85,13 @@ same-length-3 c = c .before .before .before .before .before .before .before .loo
 returns : tie.Need-returns Inv-loop μ-loop
 unfolding forward
 returns c =
-    let a = c .before .before .before .before .before .before .before .before .before .before .before .args in
-    let p = c .before .before .before .before .before .before .before .before .before .before .before .pre in
+    let start = c .before .before .before .before .before .before .before .before .before .before .before in
+    let loop = c .before .before .before .before .before .before .before .loop in
+    let a = start .args in
+    let p = start .pre in
     let d = c .before .before .before .before .before .u-index in
-    let e : c .before .before .before .before .before .before .before .loop .row ≡ a .last = omega arith in
-    performed-then (ieee binary64) (rw e at (c .before .before .before .before .before .before .before .loop .inv .1 .1))
+    let e : loop .row ≡ a .last = omega arith in
+    performed-then (ieee binary64) (rw e at (loop .inv .1 .1))
     (dense-copied (ieee binary64) (a .stride) (a .n) (a .columns) (a .last) (d .result) _ _ _ (omega arith) (omega arith) (omega arith) (d .ensures .0) (c .before .before .copy .ensures))
     (omega arith)
     (λ S R. copy-dense-same (ieee binary64) (a .numerics .epsilon) (tinyOf binary64 (a .numerics .epsilon) (a .numerics .«update_tiny»)) (a .n) (a .columns) 0 (omega arith) (a .last) 0 (omega arith))

@@ -72,15 +72,20 @@ transform-slices-requires c κs =
     simp length-set (omega arith)
 
 mul-transform-rows : tie.Need-mul-transform-rows
-mul-transform-rows c = let p = c .before .before .before .before .before .before .before .before .before .before .before .before .before .before .before .before .before .before .before .before .before .pre in omega (arith, row-fits (c .before .before .before .before .before .before .before .before .before .before .before .before .before .before .before .before .before .before .before .before .before .args .stride) (c .before .before .before .before .before .before .before .before .before .before .before .before .before .before .before .before .before .before .before .before .before .args .row) (omega arith) (omega arith), row-fits (c .before .before .before .before .before .before .before .before .before .before .before .before .before .before .before .before .before .before .before .before .before .args .stride) (c .before .before .before .before .before .before .before .before .before .before .before .before .before .before .before .before .before .before .before .before .before .args .last) (omega arith) (omega arith))
+mul-transform-rows c =
+    let start = c .before .before .before .before .before .before .before .before .before .before .before .before .before .before .before .before .before .before .before .before .before in
+    let p = start .pre in omega (arith, row-fits (start .args .stride) (start .args .row) (omega arith) (omega arith), row-fits (start .args .stride) (start .args .last) (omega arith) (omega arith))
 
 mul-transform-rows-2 : tie.Need-mul-transform-rows-2
-mul-transform-rows-2 c = let p = c .before .before .before .before .before .before .before .before .before .before .before .before .before .before .before .before .before .before .before .before .before .pre in omega (arith, row-fits (c .before .before .before .before .before .before .before .before .before .before .before .before .before .before .before .before .before .before .before .before .before .args .stride) (c .before .before .before .before .before .before .before .before .before .before .before .before .before .before .before .before .before .before .before .before .before .args .row) (omega arith) (omega arith), row-fits (c .before .before .before .before .before .before .before .before .before .before .before .before .before .before .before .before .before .before .before .before .before .args .stride) (c .before .before .before .before .before .before .before .before .before .before .before .before .before .before .before .before .before .before .before .before .before .args .last) (omega arith) (omega arith))
+mul-transform-rows-2 c =
+    let start = c .before .before .before .before .before .before .before .before .before .before .before .before .before .before .before .before .before .before .before .before .before in
+    let p = start .pre in omega (arith, row-fits (start .args .stride) (start .args .row) (omega arith) (omega arith), row-fits (start .args .stride) (start .args .last) (omega arith) (omega arith))
 
 transform-rows-requires : tie.Need-transform-rows-requires
 transform-rows-requires c κs =
-    let a = c .before .before .before .before .before .before .before .before .before .before .before .before .before .before .before .before .before .before .before .before .before .args in
-    let h = c .before .before .before .before .before .before .before .before .before .before .before .before .before .before .before .before .before .before .before .before .before .pre in
+    let start = c .before .before .before .before .before .before .before .before .before .before .before .before .before .before .before .before .before .before .before .before .before in
+    let a = start .args in
+    let h = start .pre in
     let p = row-before (a .stride) (a .row) (a .last) (omega arith) in
     let q = row-before (a .stride) (a .last) (a .stride) (omega arith) in
     (ranges-apart _ _ _ (λ e. omega arith), (omega arith, omega arith))
@@ -96,15 +101,17 @@ same-length-3 c = c .before .before .before .before .before .before .before .bef
 
 returns : tie.Need-returns
 returns c =
-    let a = c .before .before .before .before .before .before .before .before .before .before .before .before .before .before .before .before .before .before .before .before .before .before .before .before .args in
-    let p = c .before .before .before .before .before .before .before .before .before .before .before .before .before .before .before .before .before .before .before .before .before .before .before .before .pre in
+    let start = c .before .before .before .before .before .before .before .before .before .before .before .before .before .before .before .before .before .before .before .before .before .before .before .before in
+    let transform-slices = c .before .before .before .before .before .before .before .before .transform-slices in
+    let a = start .args in
+    let p = start .pre in
     let d = c .before .before .before .before .before .before .before .before .before .before .before .before .before .before .before .before .before .before .before .before .u-index in
     let s = c .before .before .before .before .before .before .before .before .before .before .before .elementary in
     performed-as (ieee binary64) (forwardTransform (ieee binary64) (a .last) (a .columns) (a .row) _)
     (forward-acts (ieee binary64) (a .numerics .epsilon) (tinyOf binary64 (a .numerics .epsilon) (a .numerics .«update_tiny»)) (a .stride) (a .row) (a .last) (a .columns) (d .result) (now (a .l)) (now (a .u)) (now (a .y)) (d .ensures .0) (c .before .before .before .before .before .before .before .before .before .before .before .before .before .before .before .before .abs2 .ensures) (c .before .before .before .before .before .before .before .before .before .before .before .before .before .before .before .before .before .abs .ensures) (c .before .before .before .before .before .before .before .before .before .before .before .before .before .before .if1 .taken) (s .ensures .step))
     (forward-transformed (ieee binary64) (a .stride) (a .n) (a .columns) (a .row) (a .last) (d .result) (now (a .l)) (now (a .u)) (now (a .y)) _ _ _ _
     (omega arith) (omega arith) (omega arith) (omega arith) (omega arith) (d .ensures .0) (omega arith) (omega arith) (s .ensures .cleared)
-    (c .before .before .before .before .before .before .before .before .transform-slices .ensures .0) (c .before .before .before .before .before .before .before .before .transform-slices .ensures .1) (c .before .before .transform-rows .ensures))
+    (transform-slices .ensures .0) (transform-slices .ensures .1) (c .before .before .transform-rows .ensures))
 
 returns-2 : tie.Need-returns-2
 returns-2 c =

@@ -25,10 +25,12 @@ passed-over-requires c κs = search needs
 
 returns : tie.Need-returns
 returns c =
-    let m : c .before .before .before .size .result ≡ sizeOf (c .before .before .before .before .before .before .before .before .before .args .mode) = c .before .before .before .size .ensures .0 ∙ ap sizeOf (toZ-ofZ (c .before .before .before .before .before .before .before .before .before .fits .mode)) in
-    let e : c .before .before .size2 .result ≡ sizeOf (c .before .before .before .before .before .before .before .before .before .args .n) = c .before .before .size2 .ensures .0 ∙ ap sizeOf (toZ-ofZ (c .before .before .before .before .before .before .before .before .before .fits .n)) in
-    let p = (λ t. passedOver (sym m t) (sym e t) (sym (toZ-ofZ (c .before .before .before .before .before .before .before .before .before .fits .krow)) t) (sym (toZ-ofZ (c .before .before .before .before .before .before .before .before .before .fits .kcol)) t)) ∙ sym (c .before .passed-over .ensures) ∙ c .if1 .taken in
-    outcome-11 _ (updateLacksRoom (sizeOf (c .before .before .before .before .before .before .before .before .before .args .n)) (strideOf (c .before .before .before .before .before .before .before .before .before .args .maxmod)) (length (now (c .before .before .before .before .before .before .before .before .before .args .l))) (length (now (c .before .before .before .before .before .before .before .before .before .args .u))) (length (now (c .before .before .before .before .before .before .before .before .before .args .y))) (length (now (c .before .before .before .before .before .before .before .before .before .args .z))) (length (now (c .before .before .before .before .before .before .before .before .before .args .w)))) p (untouched (ieee binary64))
+    let start = c .before .before .before .before .before .before .before .before .before in
+    let after-size = c .before .before .before .size in
+    let m : after-size .result ≡ sizeOf (start .args .mode) = after-size .ensures .0 ∙ ap sizeOf (toZ-ofZ (start .fits .mode)) in
+    let e : c .before .before .size2 .result ≡ sizeOf (start .args .n) = c .before .before .size2 .ensures .0 ∙ ap sizeOf (toZ-ofZ (start .fits .n)) in
+    let p = (λ t. passedOver (sym m t) (sym e t) (sym (toZ-ofZ (start .fits .krow)) t) (sym (toZ-ofZ (start .fits .kcol)) t)) ∙ sym (c .before .passed-over .ensures) ∙ c .if1 .taken in
+    outcome-11 _ (updateLacksRoom (sizeOf (start .args .n)) (strideOf (start .args .maxmod)) (length (now (start .args .l))) (length (now (start .args .u))) (length (now (start .args .y))) (length (now (start .args .z))) (length (now (start .args .w)))) p (untouched (ieee binary64))
 
 stride-requires : tie.Need-stride-requires
 stride-requires c κs = search needs
@@ -38,11 +40,14 @@ update-lacks-room-requires c κs = search needs
 
 returns-2 : tie.Need-returns-2
 returns-2 c =
-    let m : c .before .before .before .before .before .before .size .result ≡ sizeOf (c .before .before .before .before .before .before .before .before .before .before .before .before .args .mode) = c .before .before .before .before .before .before .size .ensures .0 ∙ ap sizeOf (toZ-ofZ (c .before .before .before .before .before .before .before .before .before .before .before .before .fits .mode)) in
-    let e : c .before .before .before .before .before .size2 .result ≡ sizeOf (c .before .before .before .before .before .before .before .before .before .before .before .before .args .n) = c .before .before .before .before .before .size2 .ensures .0 ∙ ap sizeOf (toZ-ofZ (c .before .before .before .before .before .before .before .before .before .before .before .before .fits .n)) in
-    let f : c .before .before .stride .result ≡ strideOf (c .before .before .before .before .before .before .before .before .before .before .before .before .args .maxmod) = c .before .before .stride .ensures .0 ∙ ap strideOf (toZ-ofZ (c .before .before .before .before .before .before .before .before .before .before .before .before .fits .maxmod)) in
-    let p = (λ t. passedOver (sym m t) (sym e t) (sym (toZ-ofZ (c .before .before .before .before .before .before .before .before .before .before .before .before .fits .krow)) t) (sym (toZ-ofZ (c .before .before .before .before .before .before .before .before .before .before .before .before .fits .kcol)) t)) ∙ sym (c .before .before .before .before .passed-over .ensures) ∙ c .before .before .before .if1 .left in
-    outcome-12 _ _ p ((λ t. updateLacksRoom (sym e t) (sym f t) (length (now (c .before .before .before .before .before .before .before .before .before .before .before .before .args .l))) (length (now (c .before .before .before .before .before .before .before .before .before .before .before .before .args .u))) (length (now (c .before .before .before .before .before .before .before .before .before .before .before .before .args .y))) (length (now (c .before .before .before .before .before .before .before .before .before .before .before .before .args .z))) (length (now (c .before .before .before .before .before .before .before .before .before .before .before .before .args .w)))) ∙ sym (c .before .update-lacks-room .ensures) ∙ c .if2 .taken) (untouched (ieee binary64))
+    let start = c .before .before .before .before .before .before .before .before .before .before .before .before in
+    let after-size = c .before .before .before .before .before .before .size in
+    let size2 = c .before .before .before .before .before .size2 in
+    let m : after-size .result ≡ sizeOf (start .args .mode) = after-size .ensures .0 ∙ ap sizeOf (toZ-ofZ (start .fits .mode)) in
+    let e : size2 .result ≡ sizeOf (start .args .n) = size2 .ensures .0 ∙ ap sizeOf (toZ-ofZ (start .fits .n)) in
+    let f : c .before .before .stride .result ≡ strideOf (start .args .maxmod) = c .before .before .stride .ensures .0 ∙ ap strideOf (toZ-ofZ (start .fits .maxmod)) in
+    let p = (λ t. passedOver (sym m t) (sym e t) (sym (toZ-ofZ (start .fits .krow)) t) (sym (toZ-ofZ (start .fits .kcol)) t)) ∙ sym (c .before .before .before .before .passed-over .ensures) ∙ c .before .before .before .if1 .left in
+    outcome-12 _ _ p ((λ t. updateLacksRoom (sym e t) (sym f t) (length (now (start .args .l))) (length (now (start .args .u))) (length (now (start .args .y))) (length (now (start .args .z))) (length (now (start .args .w)))) ∙ sym (c .before .update-lacks-room .ensures) ∙ c .if2 .taken) (untouched (ieee binary64))
 
 size-requires-3 : tie.Need-size-requires-3
 size-requires-3 c κs = search needs
@@ -52,9 +57,12 @@ size-requires-4 c κs = search needs
 
 perform-requires : tie.Need-perform-requires
 perform-requires c κs =
-    let r : c .before .before .before .before .before .before .size3 .result ≡ sizeOf (c .before .before .before .before .before .before .before .before .before .before .before .before .before .before .before .before .before .before .before .args .krow) = c .before .before .before .before .before .before .size3 .ensures .0 ∙ ap sizeOf (toZ-ofZ (c .before .before .before .before .before .before .before .before .before .before .before .before .before .before .before .before .before .before .before .fits .krow)) in
-    let k : c .before .before .before .before .before .size4 .result ≡ sizeOf (c .before .before .before .before .before .before .before .before .before .before .before .before .before .before .before .before .before .before .before .args .kcol) = c .before .before .before .before .before .size4 .ensures .0 ∙ ap sizeOf (toZ-ofZ (c .before .before .before .before .before .before .before .before .before .before .before .before .before .before .before .before .before .before .before .fits .kcol)) in
-    let h = passed _ _ _ _ ((λ t. passedOver (c .before .before .before .before .before .before .before .before .before .before .before .before .before .size .result) (c .before .before .before .before .before .before .before .before .before .before .before .before .size2 .result) (sym (toZ-ofZ (c .before .before .before .before .before .before .before .before .before .before .before .before .before .before .before .before .before .before .before .fits .krow)) t) (sym (toZ-ofZ (c .before .before .before .before .before .before .before .before .before .before .before .before .before .before .before .before .before .before .before .fits .kcol)) t)) ∙ sym (c .before .before .before .before .before .before .before .before .before .before .before .passed-over .ensures) ∙ c .before .before .before .before .before .before .before .before .before .before .if1 .left) in
+    let start = c .before .before .before .before .before .before .before .before .before .before .before .before .before .before .before .before .before .before .before in
+    let size3 = c .before .before .before .before .before .before .size3 in
+    let size4 = c .before .before .before .before .before .size4 in
+    let r : size3 .result ≡ sizeOf (start .args .krow) = size3 .ensures .0 ∙ ap sizeOf (toZ-ofZ (start .fits .krow)) in
+    let k : size4 .result ≡ sizeOf (start .args .kcol) = size4 .ensures .0 ∙ ap sizeOf (toZ-ofZ (start .fits .kcol)) in
+    let h = passed _ _ _ _ ((λ t. passedOver (c .before .before .before .before .before .before .before .before .before .before .before .before .before .size .result) (c .before .before .before .before .before .before .before .before .before .before .before .before .size2 .result) (sym (toZ-ofZ (start .fits .krow)) t) (sym (toZ-ofZ (start .fits .kcol)) t)) ∙ sym (c .before .before .before .before .before .before .before .before .before .before .before .passed-over .ensures) ∙ c .before .before .before .before .before .before .before .before .before .before .if1 .left) in
     let s = update-room _ _ _ _ _ _ _ (sym (c .before .before .before .before .before .before .before .before .update-lacks-room .ensures) ∙ c .before .before .before .before .before .before .before .if2 .left) in
     let b = c .before .before .before .before .before .before .before .before .before .stride .ensures .1 in (
       record { stride = omega arith; dimension = s .0; l-long = s .1; u-long = s .2 },
@@ -78,13 +86,19 @@ same-length-5 c = search needs
 
 returns-3 : tie.Need-returns-3
 returns-3 c =
-    let m : c .before .before .before .before .before .before .before .before .before .before .before .before .before .before .before .before .before .before .before .before .before .before .before .before .size .result ≡ sizeOf (c .before .before .before .before .before .before .before .before .before .before .before .before .before .before .before .before .before .before .before .before .before .before .before .before .before .before .before .before .before .before .args .mode) = c .before .before .before .before .before .before .before .before .before .before .before .before .before .before .before .before .before .before .before .before .before .before .before .before .size .ensures .0 ∙ ap sizeOf (toZ-ofZ (c .before .before .before .before .before .before .before .before .before .before .before .before .before .before .before .before .before .before .before .before .before .before .before .before .before .before .before .before .before .before .fits .mode)) in
-    let e : c .before .before .before .before .before .before .before .before .before .before .before .before .before .before .before .before .before .before .before .before .before .before .before .size2 .result ≡ sizeOf (c .before .before .before .before .before .before .before .before .before .before .before .before .before .before .before .before .before .before .before .before .before .before .before .before .before .before .before .before .before .before .args .n) = c .before .before .before .before .before .before .before .before .before .before .before .before .before .before .before .before .before .before .before .before .before .before .before .size2 .ensures .0 ∙ ap sizeOf (toZ-ofZ (c .before .before .before .before .before .before .before .before .before .before .before .before .before .before .before .before .before .before .before .before .before .before .before .before .before .before .before .before .before .before .fits .n)) in
-    let f : c .before .before .before .before .before .before .before .before .before .before .before .before .before .before .before .before .before .before .before .before .stride .result ≡ strideOf (c .before .before .before .before .before .before .before .before .before .before .before .before .before .before .before .before .before .before .before .before .before .before .before .before .before .before .before .before .before .before .args .maxmod) = c .before .before .before .before .before .before .before .before .before .before .before .before .before .before .before .before .before .before .before .before .stride .ensures .0 ∙ ap strideOf (toZ-ofZ (c .before .before .before .before .before .before .before .before .before .before .before .before .before .before .before .before .before .before .before .before .before .before .before .before .before .before .before .before .before .before .fits .maxmod)) in
-    let r : c .before .before .before .before .before .before .before .before .before .before .before .before .before .before .before .before .before .size3 .result ≡ sizeOf (c .before .before .before .before .before .before .before .before .before .before .before .before .before .before .before .before .before .before .before .before .before .before .before .before .before .before .before .before .before .before .args .krow) = c .before .before .before .before .before .before .before .before .before .before .before .before .before .before .before .before .before .size3 .ensures .0 ∙ ap sizeOf (toZ-ofZ (c .before .before .before .before .before .before .before .before .before .before .before .before .before .before .before .before .before .before .before .before .before .before .before .before .before .before .before .before .before .before .fits .krow)) in
-    let k : c .before .before .before .before .before .before .before .before .before .before .before .before .before .before .before .before .size4 .result ≡ sizeOf (c .before .before .before .before .before .before .before .before .before .before .before .before .before .before .before .before .before .before .before .before .before .before .before .before .before .before .before .before .before .before .args .kcol) = c .before .before .before .before .before .before .before .before .before .before .before .before .before .before .before .before .size4 .ensures .0 ∙ ap sizeOf (toZ-ofZ (c .before .before .before .before .before .before .before .before .before .before .before .before .before .before .before .before .before .before .before .before .before .before .before .before .before .before .before .before .before .before .fits .kcol)) in
-    let p = (λ t. passedOver (sym m t) (sym e t) (sym (toZ-ofZ (c .before .before .before .before .before .before .before .before .before .before .before .before .before .before .before .before .before .before .before .before .before .before .before .before .before .before .before .before .before .before .fits .krow)) t) (sym (toZ-ofZ (c .before .before .before .before .before .before .before .before .before .before .before .before .before .before .before .before .before .before .before .before .before .before .before .before .before .before .before .before .before .before .fits .kcol)) t)) ∙ sym (c .before .before .before .before .before .before .before .before .before .before .before .before .before .before .before .before .before .before .before .before .before .before .passed-over .ensures) ∙ c .before .before .before .before .before .before .before .before .before .before .before .before .before .before .before .before .before .before .before .before .before .if1 .left in
-    outcome-0 _ _ p ((λ t. updateLacksRoom (sym e t) (sym f t) (length (now (c .before .before .before .before .before .before .before .before .before .before .before .before .before .before .before .before .before .before .before .before .before .before .before .before .before .before .before .before .before .before .args .l))) (length (now (c .before .before .before .before .before .before .before .before .before .before .before .before .before .before .before .before .before .before .before .before .before .before .before .before .before .before .before .before .before .before .args .u))) (length (now (c .before .before .before .before .before .before .before .before .before .before .before .before .before .before .before .before .before .before .before .before .before .before .before .before .before .before .before .before .before .before .args .y))) (length (now (c .before .before .before .before .before .before .before .before .before .before .before .before .before .before .before .before .before .before .before .before .before .before .before .before .before .before .before .before .before .before .args .z))) (length (now (c .before .before .before .before .before .before .before .before .before .before .before .before .before .before .before .before .before .before .before .before .before .before .before .before .before .before .before .before .before .before .args .w)))) ∙ sym (c .before .before .before .before .before .before .before .before .before .before .before .before .before .before .before .before .before .before .before .update-lacks-room .ensures) ∙ c .before .before .before .before .before .before .before .before .before .before .before .before .before .before .before .before .before .before .if2 .left) (rw (← m, ← e, ← f, ← r, ← k) (c .before .before .before .before .before .before .before .before .before .before .perform .ensures))
+    let start = c .before .before .before .before .before .before .before .before .before .before .before .before .before .before .before .before .before .before .before .before .before .before .before .before .before .before .before .before .before .before in
+    let after-size = c .before .before .before .before .before .before .before .before .before .before .before .before .before .before .before .before .before .before .before .before .before .before .before .before .size in
+    let size2 = c .before .before .before .before .before .before .before .before .before .before .before .before .before .before .before .before .before .before .before .before .before .before .before .size2 in
+    let after-stride = c .before .before .before .before .before .before .before .before .before .before .before .before .before .before .before .before .before .before .before .before .stride in
+    let size3 = c .before .before .before .before .before .before .before .before .before .before .before .before .before .before .before .before .before .size3 in
+    let size4 = c .before .before .before .before .before .before .before .before .before .before .before .before .before .before .before .before .size4 in
+    let m : after-size .result ≡ sizeOf (start .args .mode) = after-size .ensures .0 ∙ ap sizeOf (toZ-ofZ (start .fits .mode)) in
+    let e : size2 .result ≡ sizeOf (start .args .n) = size2 .ensures .0 ∙ ap sizeOf (toZ-ofZ (start .fits .n)) in
+    let f : after-stride .result ≡ strideOf (start .args .maxmod) = after-stride .ensures .0 ∙ ap strideOf (toZ-ofZ (start .fits .maxmod)) in
+    let r : size3 .result ≡ sizeOf (start .args .krow) = size3 .ensures .0 ∙ ap sizeOf (toZ-ofZ (start .fits .krow)) in
+    let k : size4 .result ≡ sizeOf (start .args .kcol) = size4 .ensures .0 ∙ ap sizeOf (toZ-ofZ (start .fits .kcol)) in
+    let p = (λ t. passedOver (sym m t) (sym e t) (sym (toZ-ofZ (start .fits .krow)) t) (sym (toZ-ofZ (start .fits .kcol)) t)) ∙ sym (c .before .before .before .before .before .before .before .before .before .before .before .before .before .before .before .before .before .before .before .before .before .before .passed-over .ensures) ∙ c .before .before .before .before .before .before .before .before .before .before .before .before .before .before .before .before .before .before .before .before .before .if1 .left in
+    outcome-0 _ _ p ((λ t. updateLacksRoom (sym e t) (sym f t) (length (now (start .args .l))) (length (now (start .args .u))) (length (now (start .args .y))) (length (now (start .args .z))) (length (now (start .args .w)))) ∙ sym (c .before .before .before .before .before .before .before .before .before .before .before .before .before .before .before .before .before .before .before .update-lacks-room .ensures) ∙ c .before .before .before .before .before .before .before .before .before .before .before .before .before .before .before .before .before .before .if2 .left) (rw (← m, ← e, ← f, ← r, ← k) (c .before .before .before .before .before .before .before .before .before .before .perform .ensures))
 
 pub LUmod-spec : {M : Type 1} → statement M
 LUmod-spec =

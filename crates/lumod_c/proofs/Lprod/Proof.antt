@@ -21,8 +21,9 @@ size-requires c κs = search needs
 
 returns : tie.Need-returns
 returns c =
-    let a = c .before .before .before .before .before .args in
-    let e : c .before .size .result ≡ sizeOf (c .before .before .before .before .before .args .n) = c .before .size .ensures .0 ∙ ap sizeOf (toZ-ofZ (c .before .before .before .before .before .fits .n)) in
+    let start = c .before .before .before .before .before in
+    let a = start .args in
+    let e : c .before .size .result ≡ sizeOf (start .args .n) = c .before .size .ensures .0 ∙ ap sizeOf (toZ-ofZ (start .fits .n)) in
     outcome-11 _ (productLacksRoom (sizeOf (a .n)) (strideOf (a .maxmod)) (length (now (a .l))) (length (now (a .y))) (length (now (a .z)))) (eq-eqb _ 0 (sym e ∙ c .if1 .taken)) refl
 
 stride-requires : tie.Need-stride-requires
@@ -33,9 +34,11 @@ product-lacks-room-requires c κs = search needs
 
 returns-2 : tie.Need-returns-2
 returns-2 c =
-    let e : c .before .before .before .before .size .result ≡ sizeOf (c .before .before .before .before .before .before .before .before .args .n) = c .before .before .before .before .size .ensures .0 ∙ ap sizeOf (toZ-ofZ (c .before .before .before .before .before .before .before .before .fits .n)) in
-    let f : c .before .before .stride .result ≡ strideOf (c .before .before .before .before .before .before .before .before .args .maxmod) = c .before .before .stride .ensures .0 ∙ ap strideOf (toZ-ofZ (c .before .before .before .before .before .before .before .before .fits .maxmod)) in
-    outcome-12 _ _ (ne-eqb _ 0 (λ h. c .before .before .before .if1 .left (e ∙ h))) ((λ t. productLacksRoom (sym e t) (sym f t) (length (now (c .before .before .before .before .before .before .before .before .args .l))) (length (now (c .before .before .before .before .before .before .before .before .args .y))) (length (now (c .before .before .before .before .before .before .before .before .args .z)))) ∙ sym (c .before .product-lacks-room .ensures) ∙ c .if2 .taken) refl
+    let start = c .before .before .before .before .before .before .before .before in
+    let after-size = c .before .before .before .before .size in
+    let e : after-size .result ≡ sizeOf (start .args .n) = after-size .ensures .0 ∙ ap sizeOf (toZ-ofZ (start .fits .n)) in
+    let f : c .before .before .stride .result ≡ strideOf (start .args .maxmod) = c .before .before .stride .ensures .0 ∙ ap strideOf (toZ-ofZ (start .fits .maxmod)) in
+    outcome-12 _ _ (ne-eqb _ 0 (λ h. c .before .before .before .if1 .left (e ∙ h))) ((λ t. productLacksRoom (sym e t) (sym f t) (length (now (start .args .l))) (length (now (start .args .y))) (length (now (start .args .z)))) ∙ sym (c .before .product-lacks-room .ensures) ∙ c .if2 .taken) refl
 
 size-requires-2 : tie.Need-size-requires-2
 size-requires-2 c κs = search needs
@@ -57,10 +60,14 @@ same-length c = search needs
 
 returns-3 : tie.Need-returns-3
 returns-3 c =
-    let e : c .before .before .before .before .before .before .before .before .before .before .size .result ≡ sizeOf (c .before .before .before .before .before .before .before .before .before .before .before .before .before .before .args .n) = c .before .before .before .before .before .before .before .before .before .before .size .ensures .0 ∙ ap sizeOf (toZ-ofZ (c .before .before .before .before .before .before .before .before .before .before .before .before .before .before .fits .n)) in
-    let f : c .before .before .before .before .before .before .before .before .stride .result ≡ strideOf (c .before .before .before .before .before .before .before .before .before .before .before .before .before .before .args .maxmod) = c .before .before .before .before .before .before .before .before .stride .ensures .0 ∙ ap strideOf (toZ-ofZ (c .before .before .before .before .before .before .before .before .before .before .before .before .before .before .fits .maxmod)) in
-    let g : c .before .before .before .before .before .size2 .result ≡ sizeOf (c .before .before .before .before .before .before .before .before .before .before .before .before .before .before .args .mode) = c .before .before .before .before .before .size2 .ensures .0 ∙ ap sizeOf (toZ-ofZ (c .before .before .before .before .before .before .before .before .before .before .before .before .before .before .fits .mode)) in
-    outcome-0 _ _ (ne-eqb _ 0 (λ h. c .before .before .before .before .before .before .before .before .before .if1 .left (e ∙ h))) ((λ t. productLacksRoom (sym e t) (sym f t) (length (now (c .before .before .before .before .before .before .before .before .before .before .before .before .before .before .args .l))) (length (now (c .before .before .before .before .before .before .before .before .before .before .before .before .before .before .args .y))) (length (now (c .before .before .before .before .before .before .before .before .before .before .before .before .before .before .args .z)))) ∙ sym (c .before .before .before .before .before .before .before .product-lacks-room .ensures) ∙ c .before .before .before .before .before .before .if2 .left)
+    let start = c .before .before .before .before .before .before .before .before .before .before .before .before .before .before in
+    let after-size = c .before .before .before .before .before .before .before .before .before .before .size in
+    let after-stride = c .before .before .before .before .before .before .before .before .stride in
+    let size2 = c .before .before .before .before .before .size2 in
+    let e : after-size .result ≡ sizeOf (start .args .n) = after-size .ensures .0 ∙ ap sizeOf (toZ-ofZ (start .fits .n)) in
+    let f : after-stride .result ≡ strideOf (start .args .maxmod) = after-stride .ensures .0 ∙ ap strideOf (toZ-ofZ (start .fits .maxmod)) in
+    let g : size2 .result ≡ sizeOf (start .args .mode) = size2 .ensures .0 ∙ ap sizeOf (toZ-ofZ (start .fits .mode)) in
+    outcome-0 _ _ (ne-eqb _ 0 (λ h. c .before .before .before .before .before .before .before .before .before .if1 .left (e ∙ h))) ((λ t. productLacksRoom (sym e t) (sym f t) (length (now (start .args .l))) (length (now (start .args .y))) (length (now (start .args .z)))) ∙ sym (c .before .before .before .before .before .before .before .product-lacks-room .ensures) ∙ c .before .before .before .before .before .before .if2 .left)
     (rw (← e, ← f, ← g, plain-product (ieee binary64) _ _ _ _ _ (c .before .before .before .before .if3 .taken)) (c .before .before .l-product .ensures))
 
 same-length-2 : tie.Need-same-length-2
@@ -68,10 +75,14 @@ same-length-2 c = search needs
 
 returns-4 : tie.Need-returns-4
 returns-4 c =
-    let e : c .before .before .before .before .before .before .before .before .before .before .size .result ≡ sizeOf (c .before .before .before .before .before .before .before .before .before .before .before .before .before .before .args .n) = c .before .before .before .before .before .before .before .before .before .before .size .ensures .0 ∙ ap sizeOf (toZ-ofZ (c .before .before .before .before .before .before .before .before .before .before .before .before .before .before .fits .n)) in
-    let f : c .before .before .before .before .before .before .before .before .stride .result ≡ strideOf (c .before .before .before .before .before .before .before .before .before .before .before .before .before .before .args .maxmod) = c .before .before .before .before .before .before .before .before .stride .ensures .0 ∙ ap strideOf (toZ-ofZ (c .before .before .before .before .before .before .before .before .before .before .before .before .before .before .fits .maxmod)) in
-    let g : c .before .before .before .before .before .size2 .result ≡ sizeOf (c .before .before .before .before .before .before .before .before .before .before .before .before .before .before .args .mode) = c .before .before .before .before .before .size2 .ensures .0 ∙ ap sizeOf (toZ-ofZ (c .before .before .before .before .before .before .before .before .before .before .before .before .before .before .fits .mode)) in
-    outcome-0 _ _ (ne-eqb _ 0 (λ h. c .before .before .before .before .before .before .before .before .before .if1 .left (e ∙ h))) ((λ t. productLacksRoom (sym e t) (sym f t) (length (now (c .before .before .before .before .before .before .before .before .before .before .before .before .before .before .args .l))) (length (now (c .before .before .before .before .before .before .before .before .before .before .before .before .before .before .args .y))) (length (now (c .before .before .before .before .before .before .before .before .before .before .before .before .before .before .args .z)))) ∙ sym (c .before .before .before .before .before .before .before .product-lacks-room .ensures) ∙ c .before .before .before .before .before .before .if2 .left)
+    let start = c .before .before .before .before .before .before .before .before .before .before .before .before .before .before in
+    let after-size = c .before .before .before .before .before .before .before .before .before .before .size in
+    let after-stride = c .before .before .before .before .before .before .before .before .stride in
+    let size2 = c .before .before .before .before .before .size2 in
+    let e : after-size .result ≡ sizeOf (start .args .n) = after-size .ensures .0 ∙ ap sizeOf (toZ-ofZ (start .fits .n)) in
+    let f : after-stride .result ≡ strideOf (start .args .maxmod) = after-stride .ensures .0 ∙ ap strideOf (toZ-ofZ (start .fits .maxmod)) in
+    let g : size2 .result ≡ sizeOf (start .args .mode) = size2 .ensures .0 ∙ ap sizeOf (toZ-ofZ (start .fits .mode)) in
+    outcome-0 _ _ (ne-eqb _ 0 (λ h. c .before .before .before .before .before .before .before .before .before .if1 .left (e ∙ h))) ((λ t. productLacksRoom (sym e t) (sym f t) (length (now (start .args .l))) (length (now (start .args .y))) (length (now (start .args .z)))) ∙ sym (c .before .before .before .before .before .before .before .product-lacks-room .ensures) ∙ c .before .before .before .before .before .before .if2 .left)
     (rw (← e, ← f, ← g, transposed-product (ieee binary64) _ _ _ _ _ (c .before .before .before .before .if3 .left)) (c .before .before .l-product-transposed .ensures))
 
 pub Lprod-spec : {M : Type 1} → statement M

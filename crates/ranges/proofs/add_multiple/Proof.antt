@@ -48,7 +48,9 @@ loop-less : tie.Need-loop-less Inv-loop μ-loop
 loop-less c = omega arith
 
 loop-again : tie.Need-loop-again Inv-loop μ-loop
-loop-again c = (omega arith, written-more (ieee binary64) (apart (ieee binary64) _) (c .before .before .before .loop .inv .1) (omega arith) (rw (unwritten (ieee binary64) (apart (ieee binary64) _) (c .before .before .before .loop .inv .1))))
+loop-again c =
+    let loop = c .before .before .before .loop in
+    (omega arith, written-more (ieee binary64) (apart (ieee binary64) _) (loop .inv .1) (omega arith) (rw (unwritten (ieee binary64) (apart (ieee binary64) _) (loop .inv .1))))
 
 same-length : tie.Need-same-length Inv-loop μ-loop
 same-length c = c .before .loop .inv .1 .kept .long

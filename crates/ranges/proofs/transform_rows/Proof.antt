@@ -66,7 +66,10 @@ loop-less : tie.Need-loop-less Inv-loop μ-loop
 loop-less c = omega arith
 
 loop-again : tie.Need-loop-again Inv-loop μ-loop
-loop-again c = let h : c .before .before .before .before .before .before .loop .k < c .before .before .before .before .before .before .before .before .args .count = omega arith in (omega arith, rows-more (ieee binary64) (c .before .before .before .before .before .before .before .before .pre .0) h (omega arith) (omega arith) (c .before .before .before .before .before .before .loop .inv .1) (c .apply-pair .ensures .0) (c .apply-pair .ensures .1))
+loop-again c =
+    let start = c .before .before .before .before .before .before .before .before in
+    let loop = c .before .before .before .before .before .before .loop in
+    let h : loop .k < start .args .count = omega arith in (omega arith, rows-more (ieee binary64) (start .pre .0) h (omega arith) (omega arith) (loop .inv .1) (c .apply-pair .ensures .0) (c .apply-pair .ensures .1))
 
 same-length : tie.Need-same-length Inv-loop μ-loop
 same-length c = c .before .loop .inv .1 .kept .long

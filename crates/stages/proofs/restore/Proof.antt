@@ -25,22 +25,25 @@ add-backward c = search needs
 
 backward-requires : tie.Need-backward-requires
 backward-requires c κs =
-    let a = c .before .before .before .before .before .before .before .before .before .before .args in
-    let p = c .before .before .before .before .before .before .before .before .before .before .pre in
+    let start = c .before .before .before .before .before .before .before .before .before .before in
+    let a = start .args in
+    let p = start .pre in
     let e = c .before .before .before .before .trim .ensures in
     (p .0, (omega arith, (p .1 .1 .0, (omega arith, (omega arith, (omega arith, omega arith))))))
 
 mul-y : tie.Need-mul-y
 mul-y c =
-    let a = c .before .before .before .before .before .before .before .before .before .before .before .before .before .before .before .before .before .before .before .args in
-    let p = c .before .before .before .before .before .before .before .before .before .before .before .before .before .before .before .before .before .before .before .pre in
+    let start = c .before .before .before .before .before .before .before .before .before .before .before .before .before .before .before .before .before .before .before in
+    let a = start .args in
+    let p = start .pre in
     let e = c .before .before .before .before .before .before .before .before .before .before .before .before .before .trim .ensures in
     omega arith
 
 slice-read-y : tie.Need-slice-read-y
 slice-read-y c =
-    let a = c .before .before .before .before .before .before .before .before .before .before .before .before .before .before .before .before .before .before .before .before .args in
-    let p = c .before .before .before .before .before .before .before .before .before .before .before .before .before .before .before .before .before .before .before .before .pre in
+    let start = c .before .before .before .before .before .before .before .before .before .before .before .before .before .before .before .before .before .before .before .before in
+    let a = start .args in
+    let p = start .pre in
     let e = c .before .before .before .before .before .before .before .before .before .before .before .before .before .before .trim .ensures in
     let k = c .before .before .before .before .before .before .before .before .before .backward .ensures .v-kept .long in
     omega arith
@@ -53,8 +56,9 @@ slice-write-y c = search needs
 
 forward-requires : tie.Need-forward-requires
 forward-requires c κs =
-    let a = c .before .before .before .before .before .before .before .before .before .before .before .before .before .before .before .before .before .before .before .before .before .before .before .args in
-    let p = c .before .before .before .before .before .before .before .before .before .before .before .before .before .before .before .before .before .before .before .before .before .before .before .pre in
+    let start = c .before .before .before .before .before .before .before .before .before .before .before .before .before .before .before .before .before .before .before .before .before .before .before in
+    let a = start .args in
+    let p = start .pre in
     let e = c .before .before .before .before .before .before .before .before .before .before .before .before .before .before .before .before .before .trim .ensures in
     let k = c .before .before .before .before .before .before .before .before .before .before .before .before .backward .ensures in (
       record { stride = p .0 .stride; dimension = p .0 .dimension; l-long = rw (k .l-kept .long) (p .0 .l-long); u-long = rw (k .u-kept .long) (p .0 .u-long) },
@@ -75,11 +79,14 @@ same-length-4 c = search needs
 
 returns : tie.Need-returns
 returns c =
-    let a = c .before .before .before .before .before .before .before .before .before .before .before .before .before .before .before .before .before .before .before .before .before .before .before .before .before .before .before .before .before .before .args in
-    let p = c .before .before .before .before .before .before .before .before .before .before .before .before .before .before .before .before .before .before .before .before .before .before .before .before .before .before .before .before .before .before .pre in
-    let k = c .before .before .before .before .before .before .before .before .before .before .before .before .before .before .before .before .before .before .before .backward .ensures .y-kept .long in
-    restored-performed (ieee binary64) (a .numerics .epsilon) (tinyOf binary64 (a .numerics .epsilon) (a .numerics .«update_tiny»)) (a .stride) (a .n) (a .column) (a .last) (a .columns) (c .before .before .before .before .before .before .before .before .before .before .before .before .before .before .before .before .before .before .before .before .before .before .before .before .trim .result) _ _ _ (now (a .w)) _ _ (omega arith) (omega arith) (omega arith) (omega arith) (omega arith)
-    (rw add-one at (c .before .before .before .before .before .before .before .before .before .before .before .before .before .before .before .before .before .before .before .before .before .before .before .before .trim .ensures .0)) (rw add-one at (c .before .before .before .before .before .before .before .before .before .before .before .before .before .before .before .before .before .before .before .backward .ensures)) (c .before .before .before .before .before .before .forward .ensures)
+    let start = c .before .before .before .before .before .before .before .before .before .before .before .before .before .before .before .before .before .before .before .before .before .before .before .before .before .before .before .before .before .before in
+    let after-trim = c .before .before .before .before .before .before .before .before .before .before .before .before .before .before .before .before .before .before .before .before .before .before .before .before .trim in
+    let after-backward = c .before .before .before .before .before .before .before .before .before .before .before .before .before .before .before .before .before .before .before .backward in
+    let a = start .args in
+    let p = start .pre in
+    let k = after-backward .ensures .y-kept .long in
+    restored-performed (ieee binary64) (a .numerics .epsilon) (tinyOf binary64 (a .numerics .epsilon) (a .numerics .«update_tiny»)) (a .stride) (a .n) (a .column) (a .last) (a .columns) (after-trim .result) _ _ _ (now (a .w)) _ _ (omega arith) (omega arith) (omega arith) (omega arith) (omega arith)
+    (rw add-one at (after-trim .ensures .0)) (rw add-one at (after-backward .ensures)) (c .before .before .before .before .before .before .forward .ensures)
 
 pub restore-spec : {M : Type 1} → statement M
 restore-spec =

@@ -11,10 +11,14 @@ use Rattle.stages.proofs.set_unit_row.Statement.{statement}
 use Rattle.stages.proofs.set_unit_row.Tie as tie
 
 mul-fill : tie.Need-mul-fill
-mul-fill c = omega (arith, row-fits (c .before .before .args .stride) (c .before .before .args .row) (omega arith) (omega arith))
+mul-fill c =
+    let start = c .before .before in
+    omega (arith, row-fits (start .args .stride) (start .args .row) (omega arith) (omega arith))
 
 fill-requires : tie.Need-fill-requires
-fill-requires c κs = let h = row-before (c .before .before .args .stride) (c .before .before .args .row) (c .before .before .args .stride) (omega arith) in omega arith
+fill-requires c κs =
+    let start = c .before .before in
+    let h = row-before (start .args .stride) (start .args .row) (start .args .stride) (omega arith) in omega arith
 
 l-index-requires : tie.Need-l-index-requires
 l-index-requires c κs = search needs
@@ -30,10 +34,12 @@ same-length c = search needs
 
 returns : tie.Need-returns
 returns c =
-    let a = c .before .before .before .before .before .before .args in
-    let p = c .before .before .before .before .before .before .pre in
-    let k = c .before .before .before .fill .ensures .kept .long in
-    unit-row-set (ieee binary64) (a .stride) (a .n) (a .row) (a .column) (c .l-index .result) (now (a .l)) (omega arith) (omega arith) (omega arith) (c .l-index .ensures .0) (omega arith) (c .before .before .before .fill .ensures)
+    let start = c .before .before .before .before .before .before in
+    let after-fill = c .before .before .before .fill in
+    let a = start .args in
+    let p = start .pre in
+    let k = after-fill .ensures .kept .long in
+    unit-row-set (ieee binary64) (a .stride) (a .n) (a .row) (a .column) (c .l-index .result) (now (a .l)) (omega arith) (omega arith) (omega arith) (c .l-index .ensures .0) (omega arith) (after-fill .ensures)
 
 pub set-unit-row-spec : {M : Type 1} → statement M
 set-unit-row-spec =

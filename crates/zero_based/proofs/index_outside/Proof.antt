@@ -13,13 +13,17 @@ outside-requires : tie.Need-outside-requires
 outside-requires c κs = search needs
 
 returns : tie.Need-returns
-returns c = rw (eq-eqb _ _ (c .before .if1 .taken)) (c .outside .ensures ∙ ap (λ (z : ℤ). outside z (c .before .before .args .n)) (toZ-ofZ (c .before .before .fits .index)))
+returns c =
+    let start = c .before .before in
+    rw (eq-eqb _ _ (c .before .if1 .taken)) (c .outside .ensures ∙ ap (λ (z : ℤ). outside z (start .args .n)) (toZ-ofZ (start .fits .index)))
 
 outside-requires-2 : tie.Need-outside-requires-2
 outside-requires-2 c κs = search needs
 
 returns-2 : tie.Need-returns-2
-returns-2 c = rw (ne-eqb _ _ (c .before .before .if1 .left), eq-eqb _ _ (c .before .if2 .taken)) (c .outside2 .ensures ∙ ap (λ (z : ℤ). outside z (c .before .before .before .args .n)) (toZ-ofZ (c .before .before .before .fits .index)))
+returns-2 c =
+    let start = c .before .before .before in
+    rw (ne-eqb _ _ (c .before .before .if1 .left), eq-eqb _ _ (c .before .if2 .taken)) (c .outside2 .ensures ∙ ap (λ (z : ℤ). outside z (start .args .n)) (toZ-ofZ (start .fits .index)))
 
 returns-3 : tie.Need-returns-3
 returns-3 c = simp (ne-eqb _ _ (c .before .if1 .left), ne-eqb _ _ (c .if2 .left))

@@ -13,7 +13,9 @@ size-requires : tie.Need-size-requires
 size-requires c κs = search needs
 
 returns-2 : tie.Need-returns-2
-returns-2 c = outside-whole (c .before .before .args .index) (c .before .before .fits .index) (c .before .before .args .n) (c .before .if1 .left) (c .size .ensures .0)
+returns-2 c =
+    let start = c .before .before in
+    outside-whole (start .args .index) (start .fits .index) (start .args .n) (c .before .if1 .left) (c .size .ensures .0)
 
 pub outside-spec : {M : Type 1} → statement M
 outside-spec = tie.close (tie.spec returns size-requires returns-2)

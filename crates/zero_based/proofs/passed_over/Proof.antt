@@ -26,14 +26,18 @@ index-outside-requires c κs = search needs
 
 returns-4 : tie.Need-returns-4
 unfolding passedOver
-returns-4 c = let e = sym (c .before .index-outside .ensures ∙ ap (λ (z : ℤ). indexOutside (c .before .before .before .before .before .args .mode) 3 z (c .before .before .before .before .before .args .n)) (toZ-ofZ (c .before .before .before .before .before .fits .krow))) ∙ c .if4 .taken in simp (ne-eqb _ _ (c .before .before .before .before .if1 .left), le-ltb _ _ (c .before .before .before .if2 .left), le-ltb _ _ (c .before .before .if3 .left), e)
+returns-4 c =
+    let start = c .before .before .before .before .before in
+    let e = sym (c .before .index-outside .ensures ∙ ap (λ (z : ℤ). indexOutside (start .args .mode) 3 z (start .args .n)) (toZ-ofZ (start .fits .krow))) ∙ c .if4 .taken in simp (ne-eqb _ _ (c .before .before .before .before .if1 .left), le-ltb _ _ (c .before .before .before .if2 .left), le-ltb _ _ (c .before .before .if3 .left), e)
 
 index-outside-requires-2 : tie.Need-index-outside-requires-2
 index-outside-requires-2 c κs = search needs
 
 returns-5 : tie.Need-returns-5
 unfolding passedOver
-returns-5 c = let e = sym (c .before .before .index-outside .ensures ∙ ap (λ (z : ℤ). indexOutside (c .before .before .before .before .before .before .args .mode) 3 z (c .before .before .before .before .before .before .args .n)) (toZ-ofZ (c .before .before .before .before .before .before .fits .krow))) ∙ c .before .if4 .left in let f = c .index-outside2 .ensures ∙ ap (λ (z : ℤ). indexOutside (c .before .before .before .before .before .before .args .mode) 2 z (c .before .before .before .before .before .before .args .n)) (toZ-ofZ (c .before .before .before .before .before .before .fits .kcol)) in simp (ne-eqb _ _ (c .before .before .before .before .before .if1 .left), le-ltb _ _ (c .before .before .before .before .if2 .left), le-ltb _ _ (c .before .before .before .if3 .left), e, f)
+returns-5 c =
+    let start = c .before .before .before .before .before .before in
+    let e = sym (c .before .before .index-outside .ensures ∙ ap (λ (z : ℤ). indexOutside (start .args .mode) 3 z (start .args .n)) (toZ-ofZ (start .fits .krow))) ∙ c .before .if4 .left in let f = c .index-outside2 .ensures ∙ ap (λ (z : ℤ). indexOutside (start .args .mode) 2 z (start .args .n)) (toZ-ofZ (start .fits .kcol)) in simp (ne-eqb _ _ (c .before .before .before .before .before .if1 .left), le-ltb _ _ (c .before .before .before .before .if2 .left), le-ltb _ _ (c .before .before .before .if3 .left), e, f)
 
 pub passed-over-spec : {M : Type 1} → statement M
 passed-over-spec =

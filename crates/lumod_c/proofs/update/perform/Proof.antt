@@ -42,8 +42,9 @@ same-length-5 c = search needs
 
 returns : tie.Need-returns
 returns c =
-    let a = c .before .before .before .before .before .before .before .before .before .before .before .before .before .before .before .before .before .before .before .before .before .args in
-    let p = c .before .before .before .before .before .before .before .before .before .before .before .before .before .before .before .before .before .before .before .before .before .pre in
+    let start = c .before .before .before .before .before .before .before .before .before .before .before .before .before .before .before .before .before .before .before .before .before in
+    let a = start .args in
+    let p = start .pre in
     let b = c .before .before .before .before .before .before .before .before .before .before .before .before .before .before .before .zero-based .ensures in
     push-performed (ieee binary64) zeroBasedEpsilon zeroBasedTiny (a .mode) (a .stride) (a .n) (a .row) (a .column) (now (a .l)) (now (a .u)) (now (a .y)) (now (a .z)) (now (a .w)) (c .before .before .before .before .before .before .before .before .before .before .before .before .before .before .if1 .taken) (omega arith)
     (rw (b .0, b .1) at (c .before .before .before .before .before .before .before .before .push .ensures))
@@ -65,10 +66,12 @@ same-length-10 c = search needs
 
 returns-2 : tie.Need-returns-2
 returns-2 c =
-    let a = c .before .before .before .before .before .before .before .before .before .before .before .before .before .before .before .before .before .before .before .before .before .before .args in
-    let p = c .before .before .before .before .before .before .before .before .before .before .before .before .before .before .before .before .before .before .before .before .before .before .pre in
+    let start = c .before .before .before .before .before .before .before .before .before .before .before .before .before .before .before .before .before .before .before .before .before .before in
+    let if2 = c .before .before .before .before .before .before .before .before .before .before .before .before .before .before .if2 in
+    let a = start .args in
+    let p = start .pre in
     let b = c .before .before .before .before .before .before .before .before .before .before .before .before .before .before .before .before .zero-based .ensures in
-    column-performed (ieee binary64) zeroBasedEpsilon zeroBasedTiny (a .mode) (a .stride) (a .n) (a .row) (a .column) (now (a .l)) (now (a .u)) (now (a .y)) (now (a .z)) (now (a .w)) (c .before .before .before .before .before .before .before .before .before .before .before .before .before .before .if2 .taken) (p .1 .1 .1 .1 .1 .1 .1 .1 .0 (c .before .before .before .before .before .before .before .before .before .before .before .before .before .before .if2 .taken))
+    column-performed (ieee binary64) zeroBasedEpsilon zeroBasedTiny (a .mode) (a .stride) (a .n) (a .row) (a .column) (now (a .l)) (now (a .u)) (now (a .y)) (now (a .z)) (now (a .w)) (if2 .taken) (p .1 .1 .1 .1 .1 .1 .1 .1 .0 (if2 .taken))
     (rw (b .0, b .1) at (c .before .before .before .before .before .before .before .before .replace-column .ensures))
 
 same-length-11 : tie.Need-same-length-11
@@ -87,11 +90,14 @@ same-length-15 : tie.Need-same-length-15
 same-length-15 c = search needs
 
 returns-3 : tie.Need-returns-3
-returns-3 c = let m = c .before .before .before .before .before .before .before .before .before .before .before .before .before .before .before .before .if3 .taken in
-    let a = c .before .before .before .before .before .before .before .before .before .before .before .before .before .before .before .before .before .before .before .before .before .before .before .before .before .args in
-    let p = c .before .before .before .before .before .before .before .before .before .before .before .before .before .before .before .before .before .before .before .before .before .before .before .before .before .pre in
+returns-3 c =
+    let start = c .before .before .before .before .before .before .before .before .before .before .before .before .before .before .before .before .before .before .before .before .before .before .before .before .before in
+    let if3 = c .before .before .before .before .before .before .before .before .before .before .before .before .before .before .before .before .if3 in
+    let m = if3 .taken in
+    let a = start .args in
+    let p = start .pre in
     let b = c .before .before .before .before .before .before .before .before .before .before .before .before .before .before .before .before .before .before .before .zero-based .ensures in
-    row-performed (ieee binary64) zeroBasedEpsilon zeroBasedTiny (a .mode) (a .stride) (a .n) (a .row) (a .column) (now (a .l)) (now (a .u)) (now (a .y)) (now (a .z)) (now (a .w)) (c .before .before .before .before .before .before .before .before .before .before .before .before .before .before .before .before .if3 .taken) (p .1 .1 .1 .1 .1 .1 .1 .0 (omega arith))
+    row-performed (ieee binary64) zeroBasedEpsilon zeroBasedTiny (a .mode) (a .stride) (a .n) (a .row) (a .column) (now (a .l)) (now (a .u)) (now (a .y)) (now (a .z)) (now (a .w)) (if3 .taken) (p .1 .1 .1 .1 .1 .1 .1 .0 (omega arith))
     (rw (b .0, b .1) at (c .before .before .before .before .before .before .before .before .before .before .replace-row .ensures))
 
 same-length-16 : tie.Need-same-length-16
@@ -111,11 +117,12 @@ same-length-20 c = search needs
 
 returns-4 : tie.Need-returns-4
 returns-4 c =
+    let start = c .before .before .before .before .before .before .before .before .before .before .before .before .before .before .before .before .before .before .before .before .before .before .before .before .before in
     let k = c .before .before .before .before .before .before .before .before .before .before .before .before .before .before .before .before .before .before .if1 .left in
     let h = c .before .before .before .before .before .before .before .before .before .before .before .before .before .before .before .before .before .if2 .left in
     let g = c .before .before .before .before .before .before .before .before .before .before .before .before .before .before .before .before .if3 .left in
-    let a = c .before .before .before .before .before .before .before .before .before .before .before .before .before .before .before .before .before .before .before .before .before .before .before .before .before .args in
-    let p = c .before .before .before .before .before .before .before .before .before .before .before .before .before .before .before .before .before .before .before .before .before .before .before .before .before .pre in
+    let a = start .args in
+    let p = start .pre in
     let b = c .before .before .before .before .before .before .before .before .before .before .before .before .before .before .before .before .before .before .before .zero-based .ensures in
     remove-performed (ieee binary64) zeroBasedEpsilon zeroBasedTiny (a .mode) (a .stride) (a .n) (a .row) (a .column) (now (a .l)) (now (a .u)) (now (a .y)) (now (a .z)) (now (a .w)) (omega arith) (p .1 .1 .1 .1 .1 .1 .1 .0 (omega arith)) (p .1 .1 .1 .1 .1 .1 .1 .1 .1 (omega arith))
     (rw (b .0, b .1) at (c .before .before .before .before .before .before .before .before .before .before .remove .ensures))

@@ -33,13 +33,20 @@ shared-slice-read-value : tie.Need-shared-slice-read-value Inv-loop μ-loop
 shared-slice-read-value c = omega arith
 
 returns : tie.Need-returns Inv-loop μ-loop
-returns c = let h : c .before .before .before .before .loop .i < c .before .before .before .before .before .before .args .n = omega arith in zero-found (ieee binary64) (c .before .before .before .before .before .before .args .stride) (c .before .before .before .before .before .before .args .n) (c .before .before .before .before .loop .i) (c .before .before .u-index .result) (now (c .before .before .before .before .before .before .args .u)) (c .before .before .u-index .ensures .0) (c .before .before .before .before .loop .inv .1) h (c .if1 .taken)
+returns c =
+    let start = c .before .before .before .before .before .before in
+    let loop = c .before .before .before .before .loop in
+    let h : loop .i < start .args .n = omega arith in zero-found (ieee binary64) (start .args .stride) (start .args .n) (loop .i) (c .before .before .u-index .result) (now (start .args .u)) (c .before .before .u-index .ensures .0) (loop .inv .1) h (c .if1 .taken)
 
 is-finite-requires : tie.Need-is-finite-requires Inv-loop μ-loop
 is-finite-requires c κs = search needs
 
 returns-2 : tie.Need-returns-2 Inv-loop μ-loop
-returns-2 c = let h : c .before .before .before .before .before .before .loop .i < c .before .before .before .before .before .before .before .before .args .n = omega arith in non-finite-found (ieee binary64) (c .before .before .before .before .before .before .before .before .args .stride) (c .before .before .before .before .before .before .before .before .args .n) (c .before .before .before .before .before .before .loop .i) (c .before .before .before .before .u-index .result) (now (c .before .before .before .before .before .before .before .before .args .u)) (c .before .before .before .before .u-index .ensures .0) (c .before .before .before .before .before .before .loop .inv .1) h (c .before .before .if1 .left) (sym (c .before .is-finite .ensures) ∙ not-true _ (c .if2 .taken))
+returns-2 c =
+    let start = c .before .before .before .before .before .before .before .before in
+    let loop = c .before .before .before .before .before .before .loop in
+    let u-index = c .before .before .before .before .u-index in
+    let h : loop .i < start .args .n = omega arith in non-finite-found (ieee binary64) (start .args .stride) (start .args .n) (loop .i) (u-index .result) (now (start .args .u)) (u-index .ensures .0) (loop .inv .1) h (c .before .before .if1 .left) (sym (c .before .is-finite .ensures) ∙ not-true _ (c .if2 .taken))
 
 add-i : tie.Need-add-i Inv-loop μ-loop
 add-i c = omega arith
@@ -48,7 +55,11 @@ loop-less : tie.Need-loop-less Inv-loop μ-loop
 loop-less c = omega arith
 
 loop-again : tie.Need-loop-again Inv-loop μ-loop
-loop-again c = (omega arith, sound-found (ieee binary64) (c .before .before .before .before .before .before .before .before .args .stride) (c .before .before .before .before .before .before .before .before .args .n) (c .before .before .before .before .before .before .loop .i) (c .before .before .before .before .u-index .result) (now (c .before .before .before .before .before .before .before .before .args .u)) (c .before .before .before .before .u-index .ensures .0) (c .before .before .before .before .before .before .loop .inv .1) (c .before .before .if1 .left) (sym (c .before .is-finite .ensures) ∙ not-false _ (c .if2 .left)))
+loop-again c =
+    let start = c .before .before .before .before .before .before .before .before in
+    let loop = c .before .before .before .before .before .before .loop in
+    let u-index = c .before .before .before .before .u-index in
+    (omega arith, sound-found (ieee binary64) (start .args .stride) (start .args .n) (loop .i) (u-index .result) (now (start .args .u)) (u-index .ensures .0) (loop .inv .1) (c .before .before .if1 .left) (sym (c .before .is-finite .ensures) ∙ not-false _ (c .if2 .left)))
 
 returns-3 : tie.Need-returns-3 Inv-loop μ-loop
 returns-3 c = let e : c .before .loop .i ≡ c .before .before .before .args .n = omega arith in sym (rw e at (c .before .loop .inv .1))

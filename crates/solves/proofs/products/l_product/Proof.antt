@@ -27,7 +27,9 @@ mul-dot : tie.Need-mul-dot Inv-loop μ-loop
 mul-dot c = omega (arith, row-fits (c .before .before .before .before .before .args .stride) (c .before .loop .i) (omega arith) (omega arith))
 
 dot-requires : tie.Need-dot-requires Inv-loop μ-loop
-dot-requires c κs = let h = row-before (c .before .before .before .before .before .args .stride) (c .before .loop .i) (c .before .before .before .before .before .args .stride) (omega arith) in (omega arith, omega arith)
+dot-requires c κs =
+    let start = c .before .before .before .before .before in
+    let h = row-before (start .args .stride) (c .before .loop .i) (start .args .stride) (omega arith) in (omega arith, omega arith)
 
 mul-output : tie.Need-mul-output Inv-loop μ-loop
 mul-output c = omega arith

@@ -35,7 +35,10 @@ shared-slice-read-add-multiple : tie.Need-shared-slice-read-add-multiple Inv-loo
 shared-slice-read-add-multiple c = omega arith
 
 add-multiple-requires : tie.Need-add-multiple-requires Inv-loop μ-loop
-add-multiple-requires c κs = let h = row-before (c .before .before .before .before .before .before .before .before .before .before .before .args .stride) (c .before .before .before .loop .j) (c .before .before .before .before .before .before .before .before .before .before .before .args .stride) (omega arith) in let k = c .before .before .before .loop .inv .1 .kept .long in (omega arith, omega arith)
+add-multiple-requires c κs =
+    let start = c .before .before .before .before .before .before .before .before .before .before .before in
+    let loop = c .before .before .before .loop in
+    let h = row-before (start .args .stride) (loop .j) (start .args .stride) (omega arith) in let k = loop .inv .1 .kept .long in (omega arith, omega arith)
 
 add-j : tie.Need-add-j Inv-loop μ-loop
 add-j c = omega arith
@@ -44,7 +47,9 @@ loop-less : tie.Need-loop-less Inv-loop μ-loop
 loop-less c = omega arith
 
 loop-again : tie.Need-loop-again Inv-loop μ-loop
-loop-again c = let a = c .before .before .before .before .before .before .before .before .before .before .before .before .before .before .args in (omega arith, row-sums-more (ieee binary64) (a .stride) (a .n) (c .before .before .before .before .before .before .loop .j) (now (a .l)) (now (a .input)) refl (c .before .before .before .before .before .before .loop .inv .1) (c .before .before .add-multiple .ensures))
+loop-again c =
+    let loop = c .before .before .before .before .before .before .loop in
+    let a = c .before .before .before .before .before .before .before .before .before .before .before .before .before .before .args in (omega arith, row-sums-more (ieee binary64) (a .stride) (a .n) (loop .j) (now (a .l)) (now (a .input)) refl (loop .inv .1) (c .before .before .add-multiple .ensures))
 
 same-length : tie.Need-same-length Inv-loop μ-loop
 same-length c = c .before .loop .inv .1 .kept .long ∙ c .before .before .before .before .fill .ensures .kept .long

@@ -54,11 +54,12 @@ loop-less c = omega arith
 
 loop-again : tie.Need-loop-again Inv-loop μ-loop
 loop-again c =
+    let loop = c .before .before .before .before .before .before .loop in
     let a = c .before .before .before .before .before .before .before .before .before .args in
-    let k = c .before .before .before .before .before .before .loop .inv .1 .kept .long in (
+    let k = loop .inv .1 .kept .long in (
       omega arith,
-      forward-more (ieee binary64) (a .stride) (a .n) (c .before .before .before .before .before .before .loop .row) (c .before .before .u-index .result) (now (a .u)) (now (a .b)) (c .before .before .before .before .before .before .loop .b) (omega arith) (omega arith) (omega arith) (c .before .before .u-index .ensures .0) refl
-          (c .before .before .before .before .before .before .loop .inv .1) (c .before .before .before .dot-u-column .ensures),
+      forward-more (ieee binary64) (a .stride) (a .n) (loop .row) (c .before .before .u-index .result) (now (a .u)) (now (a .b)) (loop .b) (omega arith) (omega arith) (omega arith) (c .before .before .u-index .ensures .0) refl
+          (loop .inv .1) (c .before .before .before .dot-u-column .ensures),
     )
 
 same-length : tie.Need-same-length Inv-loop μ-loop
