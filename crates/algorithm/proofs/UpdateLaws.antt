@@ -24,9 +24,8 @@ use Rattle.storage.proofs.Kept.{kept-all, kept-set, kept-then, kept-more}
 use Rattle.storage.proofs.Places.{uIndex-injective}
 use Rattle.ranges.specs.Written.{Written}
 use Rattle.forward.specs.Performed.{workOf, Performed}
-use Rattle.stages.specs.Stages.{withUnitRow, LUpdated, Dropped}
+use Rattle.stages.specs.Stages.{withUnitRow, LUpdated, Updated}
 use Rattle.stages.proofs.StageLaws.{l-column, l-column-kept, u-column-other, u-column-kept, column-put, factors-agree, forward-agrees, backward-agrees}
-use Rattle.algorithm.specs.Updated.{Updated}
 
 module _ (N : NumberForm) where
   open NumberForm N using (Value, zero as 𝟎, one as 𝟏, absent)
@@ -182,7 +181,7 @@ module _ (N : NumberForm) where
     -- ---- remove
 
     pub remove-done : (c n r k : ℕ) (l u y z w l₁ u₁ w₁ l₂ w₂ : List Value) {y₁ l₃ u₂ z₁ w₃ : List Value} → n ≤ c → r < n
-        → Dropped N c n (columnDropped N E T (n - 1) (viewL N c l) (viewU N c u) k) l u y w l₁ u₁ y₁ w₁ → Written N (λ i. i) n (λ i. viewL N c l₁ i r) w₁ w₂
+        → Updated N c n n (columnDropped N E T (n - 1) (viewL N c l) (viewU N c u) k) l u y [] w l₁ u₁ y₁ [] w₁ → Written N (λ i. i) n (λ i. viewL N c l₁ i r) w₁ w₂
         → Written N (λ i. lIndex c i r) n (λ i. viewL N c l₁ i (n - 1)) l₁ l₂ → Performed N c n 0 (n - 1) n (backward N E T 0 (n - 1) (n - 1)) l₂ u₁ z w₂ l₃ u₂ z₁ w₃
         → Updated N c n (n - 1) (removed N E T (n - 1) (viewL N c l) (viewU N c u) r k) l u y z w l₃ u₂ y₁ z₁ w₃
     unfolding removed columnCopied

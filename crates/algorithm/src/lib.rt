@@ -8,7 +8,7 @@ ghost use Rattle.machine.specs.Products.{entry};
 ghost use Rattle.machine.specs.Updates.{pushed, columnReplaced, rowReplaced, removed};
 ghost use Rattle.storage.specs.Views.{viewL, viewU};
 ghost use Rattle.forward.specs.Performed.{Room};
-ghost use Rattle.algorithm.specs.Updated.{Updated};
+ghost use Rattle.stages.specs.Stages.{Updated};
 use backward::backward;
 use backward::trim;
 use columns::clear_l_column;

@@ -17,7 +17,7 @@ use Rattle.machine.proofs.Choice.{tabulate-length, tabulate-at, agree-trans, wi
 use Rattle.machine.proofs.Updates.{pushed-same, column-replaced-same, row-replaced-same}
 use Rattle.machine.proofs.Step.{step-accepted}
 use Rattle.storage.specs.Views.{viewL, viewU}
-use Rattle.algorithm.specs.Updated.{Updated}
+use Rattle.stages.specs.Stages.{Updated}
 use Rattle.lumod_c.specs.Outcome.{dimensionBefore, dimensionAfter, stateAt, callOf, productOf, solveOf, UpdateDone}
 
 module _ (N : NumberForm) (E T : N .Value) where

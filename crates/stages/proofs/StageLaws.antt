@@ -26,7 +26,7 @@ use Rattle.storage.proofs.Kept.{kept-all, kept-set, kept-then, kept-more}
 use Rattle.storage.proofs.Places.{lIndex-injective, uIndex-injective}
 use Rattle.ranges.specs.Written.{from, Written}
 use Rattle.forward.specs.Performed.{workOf, Performed}
-use Rattle.stages.specs.Stages.{withUnitRow, LUpdated, Dropped}
+use Rattle.stages.specs.Stages.{withUnitRow, LUpdated, Updated}
 
 module _ (N : NumberForm) where
   open NumberForm N using (Value, zero as 𝟎, one as 𝟏, absent)
@@ -148,7 +148,7 @@ module _ (N : NumberForm) where
     module _ (c n k : ℕ) (l u y w : List Value) where
       pub column-dropped : (u₁ w₁ : List Value) {l′ u′ y′ w′ : List Value} → n ≤ c → k < n - 1 → Written N (λ i. i) (n - 1 + 1) (λ i. viewU N c u i (n - 1)) w w₁
           → Written N (λ i. uIndex c i k) (k + 1) (entry N w₁) u u₁ → Performed N c n k (n - 1) 0 (restored N E T k (n - 1) (n - 1)) l u₁ y w₁ l′ u′ y′ w′
-          → Dropped N c n (columnDropped N E T (n - 1) (viewL N c l) (viewU N c u) k) l u y w l′ u′ y′ w′
+          → Updated N c n n (columnDropped N E T (n - 1) (viewL N c l) (viewU N c u) k) l u y [] w l′ u′ y′ [] w′
       unfolding columnDropped
       column-dropped u₁ w₁ {l′} {u′} {y′} {w′} hc hk ws us r =
           let start = column-put c n (n - 1) (n - 1) k l u y w₁ {R = record { L = viewL N c l; U = viewU N c u; y = unset N; v = λ i. viewU N c u i (n - 1) }} hc (omega arith) us
@@ -159,15 +159,17 @@ module _ (N : NumberForm) where
             l-kept = r .l-kept;
             u-kept = kept-then N (u-column-kept c k (k + 1) (omega arith) (omega arith) us n (omega arith)) (r .u-kept);
             y-kept = r .y-kept;
+            z-kept = kept-all N;
             w-kept = kept-then N (kept-more N (λ q a. omega arith) (ws .kept)) (r .v-kept);
           }
 
-      pub last-column-dropped : n - 1 ≤ k → Dropped N c n (columnDropped N E T (n - 1) (viewL N c l) (viewU N c u) k) l u y w l u y w
+      pub last-column-dropped : n - 1 ≤ k → Updated N c n n (columnDropped N E T (n - 1) (viewL N c l) (viewU N c u) k) l u y [] w l u y [] w
       unfolding columnDropped
       last-column-dropped h = record {
         agree = rw (le-ltb k (n - 1) h) (record { n = refl; L = λ i j a b. refl; U = λ i j a b. refl });
         l-kept = kept-all N;
         u-kept = kept-all N;
         y-kept = kept-all N;
+        z-kept = kept-all N;
         w-kept = kept-all N;
       }

@@ -1,4 +1,5 @@
 // Stages of the updates of the factors.
+ghost use mathlib.Core.List.{[]};
 ghost use Prim.Native.Nat.{_+_, _-_, _*_, _^_, _≤_, _<_};
 ghost use lib.ListN.{length};
 ghost use lib.Ieee.{binary64};
@@ -8,7 +9,7 @@ ghost use Rattle.machine.specs.Products.{entry};
 ghost use Rattle.machine.specs.Updates.{restored, columnDropped};
 ghost use Rattle.storage.specs.Views.{viewL, viewU};
 ghost use Rattle.forward.specs.Performed.{Room, Performed};
-ghost use Rattle.stages.specs.Stages.{withUnitRow, LUpdated, Dropped};
+ghost use Rattle.stages.specs.Stages.{withUnitRow, LUpdated, Updated};
 use backward::backward;
 use backward::trim;
 use columns::read_u_column;
@@ -74,9 +75,9 @@ pub fn drop_column(
     numerics: Numerics,
 )
     requires { ⌜ Room (ieee binary64) stride n (now l) (now u) × ((n ≤ length (now y)) × ((n ≤ length (now w)) × (column < n))) ⌝ }
-    ensures { λ _. ⌜ Dropped (ieee binary64) stride n (columnDropped (ieee binary64) (numerics .epsilon) (tinyOf binary64 (numerics .epsilon) (numerics .«update_tiny»)) (n - 1)
+    ensures { λ _. ⌜ Updated (ieee binary64) stride n n (columnDropped (ieee binary64) (numerics .epsilon) (tinyOf binary64 (numerics .epsilon) (numerics .«update_tiny»)) (n - 1)
         (viewL (ieee binary64) stride (now (l .entry))) (viewU (ieee binary64) stride (now (u .entry))) column)
-        (now (l .entry)) (now (u .entry)) (now (y .entry)) (now (w .entry)) (now (l .exit)) (now (u .exit)) (now (y .exit)) (now (w .exit)) ⌝ }
+        (now (l .entry)) (now (u .entry)) (now (y .entry)) [] (now (w .entry)) (now (l .exit)) (now (u .exit)) (now (y .exit)) [] (now (w .exit)) ⌝ }
 {
     let last = n - 1;
     if column < last {
