@@ -23,7 +23,14 @@ replace-row-requires : tie.Need-replace-row-requires
 replace-row-requires c κs = let p = c .before .before .before .before .before .before .before .before .before .before .before .before .before .before .pre in let h = c .before .before .before .before .before .if3 .taken in (p .0, (p .1 .0, (p .1 .1 .0, (p .1 .1 .1 .0, p .1 .1 .1 .1 .1 .1 .1 .0 (omega arith)))))
 
 remove-requires : tie.Need-remove-requires
-remove-requires c κs = let p = c .before .before .before .before .before .before .before .before .before .before .before .before .before .before .pre in let g = c .before .before .before .before .before .if3 .left in let h = c .before .before .before .before .before .before .if2 .left in let k = c .before .before .before .before .before .before .before .if1 .left in (p .0, (p .1 .0, (p .1 .1 .0, (p .1 .1 .1 .0, (p .1 .1 .1 .1 .1 .1 .1 .0 (omega arith), p .1 .1 .1 .1 .1 .1 .1 .1 .1 (omega arith))))))
+remove-requires c κs =
+    let p = c .before .before .before .before .before .before .before .before .before .before .before .before .before .before .pre in
+    let g = c .before .before .before .before .before .if3 .left in
+    let h = c .before .before .before .before .before .before .if2 .left in
+    let k = c .before .before .before .before .before .before .before .if1 .left in
+    let row = p .1 .1 .1 .1 .1 .1 .1 .0 (omega arith) in
+    let column = p .1 .1 .1 .1 .1 .1 .1 .1 .1 (omega arith) in
+    (p .0, (p .1 .0, (p .1 .1 .0, (p .1 .1 .1 .0, (omega arith, omega arith)))))
 
 same-length : tie.Need-same-length
 same-length c = search needs
