@@ -94,7 +94,8 @@ pub record ZeroBasedOrder : Type 0 where
   product-short-l : numberOf (productRefusal (pos 4) (pos 3) 15 3 3) ≡ 12
   product-short-y : numberOf (productRefusal (pos 4) (pos 3) 16 2 3) ≡ 12
   product-short-z : numberOf (productRefusal (pos 4) (pos 3) 16 3 2) ≡ 12
-  solve-accepted : numberOf (solveRefusal (negsuc 6) (pos 1) 1 1) ≡ 0
+  solve-accepted : numberOf (solveRefusal (pos 4) (pos 3) 10 3) ≡ 0
+  solve-stride-1 : numberOf (solveRefusal (negsuc 6) (pos 1) 1 1) ≡ 0
   solve-negative-first : numberOf (solveRefusal (pos 4) (negsuc 0) 0 0) ≡ 11
   solve-large : numberOf (solveRefusal (negsuc 6) (pos 2) 9 9) ≡ 12
   solve-short-u : numberOf (solveRefusal (pos 4) (pos 3) 9 3) ≡ 12
@@ -135,6 +136,7 @@ zeroBasedOrder = record {
   product-short-y = refl;
   product-short-z = refl;
   solve-accepted = refl;
+  solve-stride-1 = refl;
   solve-negative-first = refl;
   solve-large = refl;
   solve-short-u = refl;
