@@ -4,8 +4,8 @@ use mathlib.Core.Bool.{Bool, true, false, _&&_}
 use mathlib.Core.List.{List}
 use Prim.Native.Nat.{ℕ, zero, suc, _+_, _-_, _*_, _≤_, _<_}
 use native.Mathlib.Omega.{arith}
-use lib.Dec.{leb, ltb, eqb, eqb→eq, le→leb, lt→ltb, T-not}
-use lib.Ieee.Fits.{and-i, and-l, and-r, eq→eqb}
+use lib.Dec.{leb, ltb, eqb, eqb→eq}
+use lib.Ieee.Fits.{and-l, and-r}
 use lib.ListN.{length, set, length-set}
 use lib.Seq.{getD-set-same, getD-set-other}
 use borrow.Author.Tests.{lt-ltb, le-ltb}
@@ -20,7 +20,7 @@ use Rattle.storage.specs.Views.{viewU}
 use Rattle.storage.proofs.Kept.{kept-all, kept-set, kept-then, kept-more}
 use Rattle.ranges.specs.Written.{from, Written, RowsTransformed}
 use Rattle.forward.specs.Performed.{workOf, Performed}
-use Rattle.forward.proofs.RowParts.{part-place, outside-part, part-free}
+use Rattle.forward.proofs.RowParts.{part-place, outside-part, part-free, left-out}
 use Rattle.forward.proofs.Buffers.{l-transformed, l-transformed-kept}
 
 module _ (N : NumberForm) where
@@ -99,8 +99,7 @@ module _ (N : NumberForm) where
         let f = in-range row columns j (and-r (eqb i row) (leb row j && ltb j columns) s) in
         rw e (row-u j (f .0) (f .1)))
         (λ s. us .kept .same _ (outside-part c row row (columns - row) d (omega arith) (omega arith) is-d i j hij (omega arith)
-        (λ k h e f. T-not (eqb i row && (leb row j && ltb j columns)) s
-        (and-i (eqb i row) (leb row j && ltb j columns) (eq→eqb e) (and-i (leb row j) (ltb j columns) (le→leb row j (omega arith)) (lt→ltb j columns (omega arith)))))))
+        (left-out row columns i j s)))
 
     transformed-y : (j : ℕ) → row ≤ j → j < columns → entry N y′ j ≡ backwardTransform N selected columns row (stepOf x swap m) (workOf N c l u y v) .y j
     unfolding backwardTransform

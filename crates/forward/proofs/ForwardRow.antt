@@ -6,8 +6,8 @@ use mathlib.Core.Logic.{_≢_, _⊎_, inl, inr, ⊎-elim}
 use Prim.Native.Nat.{ℕ, suc, _+_, _-_, _*_, _≤_, _<_}
 use native.Mathlib.Omega.{arith}
 use native.Mathlib.Decide.{decLt}
-use lib.Dec.{T as So, leb, ltb, eqb, eqb→eq, le→leb, lt→ltb, T-not}
-use lib.Ieee.Fits.{and-i, and-l, and-r, eq→eqb}
+use lib.Dec.{T as So, leb, ltb, eqb, eqb→eq}
+use lib.Ieee.Fits.{and-l, and-r}
 use lib.ListN.{length, set}
 use lib.Seq.{getD-set-same, getD-set-other}
 use Rattle.numbers.specs.NumberForm.{NumberForm}
@@ -22,7 +22,7 @@ use Rattle.storage.proofs.Kept.{kept-all, kept-set, kept-then, kept-more}
 use Rattle.storage.proofs.Places.{uIndex-along, uIndex-injective}
 use Rattle.ranges.specs.Written.{from, Written, RowsTransformed}
 use Rattle.forward.specs.Performed.{workOf, Performed}
-use Rattle.forward.proofs.RowParts.{part-place, outside-part, part-free}
+use Rattle.forward.proofs.RowParts.{part-place, outside-part, part-free, left-out}
 use Rattle.forward.proofs.Buffers.{l-transformed, l-transformed-kept}
 
 module _ (N : NumberForm) where
@@ -164,8 +164,7 @@ module _ (N : NumberForm) where
         ∙ ap (entry N u′) (sym (part-place c last last (columns - last) d (omega arith) (omega arith) is-d (j - last) (omega arith)))
         ∙ us .value (j - last) (omega arith) ∙ ap (entry N y) back)
         (λ s. us .kept .same _ (outside-part c last last (columns - last) d (omega arith) (omega arith) is-d i j hij (omega arith)
-        (λ k h e f. T-not (eqb i last && (leb last j && ltb j columns)) s
-        (and-i (eqb i last) (leb last j && ltb j columns) (eq→eqb e) (and-i (leb last j) (ltb j columns) (le→leb last j (omega arith)) (lt→ltb j columns (omega arith)))))))
+        (left-out last columns i j s)))
 
     pub dense-copied : Performed N c n 0 columns 0 (copyDenseToRow last columns) l u y [] l u′ y []
     unfolding copyDenseToRow

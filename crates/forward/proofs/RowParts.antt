@@ -1,9 +1,12 @@
 -- Parts of a row of the packed triangle U, and their places.
 use mathlib.Core.Path.{_≡_, sym, ap, _∙_}
 use mathlib.Core.Logic.{_⊎_, inl, inr}
+use mathlib.Core.Bool.{not, _&&_}
 use Prim.Native.Nat.{ℕ, _+_, _-_, _≤_, _<_}
 use native.Mathlib.Decide.{decLt}
 use native.Mathlib.Omega.{arith}
+use lib.Dec.{T as So, leb, ltb, eqb, le→leb, lt→ltb, T-not}
+use lib.Ieee.Fits.{and-i, eq→eqb}
 use Rattle.storage.specs.Places.{uIndex, UPlace, uLength}
 use Rattle.storage.proofs.Places.{uIndex-along, uIndex-injective, uIndex-within}
 use Rattle.ranges.specs.Written.{from, Among}
@@ -29,6 +32,12 @@ module _ (c row a count p : ℕ) (ha : row ≤ a) (hc : a + count ≤ c) (is-p :
       go : Dec (0 < count) → p + count ≤ length
       go (yes g) = omega (arith, part-place (count - 1) (omega arith), uIndex-within c row (a + (count - 1)) (omega arith) (omega arith))
       go (no g) = omega (arith, is-p, uIndex-within c row a ha h)
+
+-- an entry that the test of a row from its diagonal on below `columns` leaves out is not in that part
+pub left-out : (row columns i j : ℕ) → So (not (eqb i row && (leb row j && ltb j columns))) → (k : ℕ) → k < columns - row → i ≡ row → j ≡ row + k → ⊥
+left-out row columns i j s k h e f =
+    T-not (eqb i row && (leb row j && ltb j columns)) s
+    (and-i (eqb i row) (leb row j && ltb j columns) (eq→eqb e) (and-i (leb row j) (ltb j columns) (le→leb row j (omega arith)) (lt→ltb j columns (omega arith))))
 
 -- two ranges of one length have no place in common, whichever is the earlier
 pub ranges-apart : (x y n : ℕ) → (y < x + n → y + n ≤ x) → (x + n ≤ y) ⊎ (y + n ≤ x)

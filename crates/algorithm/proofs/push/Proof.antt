@@ -43,7 +43,8 @@ forward-requires c κs =
     let start = c .before .before .before .before .before .before .before .before .before .before .before .before .before .before .before .before .before .before .before .before .before .before .before .before .before .before .before in
     let a = start .args in
     let p = start .pre in (
-      record { stride = p .0 .stride; dimension = p .0 .dimension; l-long = rw (c .before .before .before .before .before .before .before .before .before .before .before .set-unit-row .ensures .kept .long, c .before .before .before .before .before .before .before .before .before .before .before .before .before .before .before .clear-l-column .ensures .kept .long) (p .0 .l-long); u-long = rw (length-set, c .before .before .before .before .before .before .write-u-column .ensures .kept .long) (p .0 .u-long) },
+      record
+          { stride = p .0 .stride; dimension = p .0 .dimension; l-long = rw (c .before .before .before .before .before .before .before .before .before .before .before .set-unit-row .ensures .kept .long, c .before .before .before .before .before .before .before .before .before .before .before .before .before .before .before .clear-l-column .ensures .kept .long) (p .0 .l-long); u-long = rw (length-set, c .before .before .before .before .before .before .write-u-column .ensures .kept .long) (p .0 .u-long) },
       (omega arith, (omega arith, (omega arith, (omega arith, omega arith)))),
     )
 
@@ -67,8 +68,12 @@ returns c =
     let a = start .args in
     let p = start .pre in
     let k = write-u-column .ensures .kept .long in
-    push-done (ieee binary64) (a .numerics .epsilon) (tinyOf binary64 (a .numerics .epsilon) (a .numerics .«update_tiny»)) (a .stride) (a .n) (u-index .result) (now (a .l)) (now (a .u)) (now (a .y)) (now (a .z)) (now (a .w)) _ _ _ _ (omega arith) (omega arith)
-    (c .before .before .before .before .before .before .before .before .before .before .before .before .before .before .before .before .before .before .before .before .before .before .before .before .before .before .l-product .ensures) (c .before .before .before .before .before .before .before .before .before .before .before .before .before .before .before .before .before .before .before .before .before .before .clear-l-column .ensures) (c .before .before .before .before .before .before .before .before .before .before .before .before .before .before .before .before .before .before .set-unit-row .ensures) (write-u-column .ensures) (u-index .ensures .0) (omega arith) (c .before .before .before .before .before .before .forward .ensures)
+    push-done (ieee binary64) (a .numerics .epsilon) (tinyOf binary64 (a .numerics .epsilon) (a .numerics .«update_tiny»)) (a .stride) (a .n) (u-index .result) (now (a .l)) (now (a .u)) (now (a .y))
+    (now (a .z)) (now (a .w)) _ _ _ _ (omega arith) (omega arith)
+    (c .before .before .before .before .before .before .before .before .before .before .before .before .before .before .before .before .before .before .before .before .before .before .before .before .before .before .l-product .ensures)
+    (c .before .before .before .before .before .before .before .before .before .before .before .before .before .before .before .before .before .before .before .before .before .before .clear-l-column .ensures)
+    (c .before .before .before .before .before .before .before .before .before .before .before .before .before .before .before .before .before .before .set-unit-row .ensures) (write-u-column .ensures)
+    (u-index .ensures .0) (omega arith) (c .before .before .before .before .before .before .forward .ensures)
 
 pub push-spec : {M : Type 1} → statement M
 push-spec =

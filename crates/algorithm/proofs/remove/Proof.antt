@@ -28,7 +28,8 @@ backward-requires c κs =
     let a = start .args in
     let p = start .pre in
     let d = c .before .before .before .before .before .before .before .before .before .before .before .before .before .before .before .before .before .before .before .before .before .drop-column .ensures in (
-      record { stride = p .0 .stride; dimension = p .0 .dimension; l-long = rw (c .before .before .before .before .before .before .copy-l-column .ensures .kept .long, d .l-kept .long) (p .0 .l-long); u-long = rw (d .u-kept .long) (p .0 .u-long) },
+      record
+          { stride = p .0 .stride; dimension = p .0 .dimension; l-long = rw (c .before .before .before .before .before .before .copy-l-column .ensures .kept .long, d .l-kept .long) (p .0 .l-long); u-long = rw (d .u-kept .long) (p .0 .u-long) },
       (omega arith, (rw (c .before .before .before .before .before .before .before .before .before .before .read-l-column .ensures .kept .long, d .w-kept .long) (omega arith), (omega arith, (omega arith, (omega arith, omega arith))))),
     )
 
@@ -52,8 +53,12 @@ returns c =
     let start = c .before .before .before .before .before .before .before .before .before .before .before .before .before .before .before .before .before .before .before .before .before .before .before .before .before .before .before .before .before .before .before .before .before .before .before .before .before .before .before .before in
     let a = start .args in
     let p = start .pre in
-    remove-done (ieee binary64) (a .numerics .epsilon) (tinyOf binary64 (a .numerics .epsilon) (a .numerics .«update_tiny»)) (a .stride) (a .n) (a .row) (a .column) (now (a .l)) (now (a .u)) (now (a .y)) (now (a .z)) (now (a .w)) _ _ _ _ _ (omega arith) (omega arith)
-    (c .before .before .before .before .before .before .before .before .before .before .before .before .before .before .before .before .before .before .before .before .before .before .before .before .before .before .before .before .before .before .drop-column .ensures) (c .before .before .before .before .before .before .before .before .before .before .before .before .before .before .before .before .before .before .before .read-l-column .ensures) (c .before .before .before .before .before .before .before .before .before .before .before .before .before .before .before .copy-l-column .ensures) (c .before .before .before .before .before .before .before .before .backward .ensures)
+    remove-done (ieee binary64) (a .numerics .epsilon) (tinyOf binary64 (a .numerics .epsilon) (a .numerics .«update_tiny»)) (a .stride) (a .n) (a .row) (a .column) (now (a .l)) (now (a .u))
+    (now (a .y)) (now (a .z)) (now (a .w)) _ _ _ _ _ (omega arith) (omega arith)
+    (c .before .before .before .before .before .before .before .before .before .before .before .before .before .before .before .before .before .before .before .before .before .before .before .before .before .before .before .before .before .before .drop-column .ensures)
+    (c .before .before .before .before .before .before .before .before .before .before .before .before .before .before .before .before .before .before .before .read-l-column .ensures)
+    (c .before .before .before .before .before .before .before .before .before .before .before .before .before .before .before .copy-l-column .ensures)
+    (c .before .before .before .before .before .before .before .before .backward .ensures)
 
 pub remove-spec : {M : Type 1} → statement M
 remove-spec =

@@ -45,8 +45,11 @@ returns c =
     let start = c .before .before .before .before .before .before .before .before .before .before .before .before .before .before .before .before .before .before .before .before .before .before .before .before .before .before .before .before .before in
     let a = start .args in
     let p = start .pre in
-    column-restored (ieee binary64) (a .numerics .epsilon) (tinyOf binary64 (a .numerics .epsilon) (a .numerics .«update_tiny»)) (a .stride) (a .n) (a .column) (now (a .l)) (now (a .u)) (now (a .y)) (now (a .z)) (now (a .w)) _ _ (omega arith) (omega arith)
-    (c .before .before .before .before .before .before .before .before .before .before .before .before .before .before .before .before .before .before .before .before .before .l-product .ensures) (c .before .before .before .before .before .before .before .before .before .before .before .before .before .before .before .before .write-u-column .ensures) (omega arith) (c .before .before .before .before .before .before .before .before .restore .ensures)
+    column-restored (ieee binary64) (a .numerics .epsilon) (tinyOf binary64 (a .numerics .epsilon) (a .numerics .«update_tiny»)) (a .stride) (a .n) (a .column) (now (a .l)) (now (a .u)) (now (a .y))
+    (now (a .z)) (now (a .w)) _ _ (omega arith) (omega arith)
+    (c .before .before .before .before .before .before .before .before .before .before .before .before .before .before .before .before .before .before .before .before .before .l-product .ensures)
+    (c .before .before .before .before .before .before .before .before .before .before .before .before .before .before .before .before .write-u-column .ensures) (omega arith)
+    (c .before .before .before .before .before .before .before .before .restore .ensures)
 
 same-length-5 : tie.Need-same-length-5
 same-length-5 c = search needs
@@ -62,7 +65,8 @@ returns-2 c =
     let start = c .before .before .before .before .before .before .before .before .before .before .before .before .before .before .before .before in
     let a = start .args in
     let p = start .pre in
-    last-column-replaced (ieee binary64) (a .numerics .epsilon) (tinyOf binary64 (a .numerics .epsilon) (a .numerics .«update_tiny»)) (a .stride) (a .n) (a .column) (now (a .l)) (now (a .u)) (now (a .y)) (now (a .z)) (now (a .w)) _ _ (omega arith) (omega arith)
+    last-column-replaced (ieee binary64) (a .numerics .epsilon) (tinyOf binary64 (a .numerics .epsilon) (a .numerics .«update_tiny»)) (a .stride) (a .n) (a .column) (now (a .l)) (now (a .u))
+    (now (a .y)) (now (a .z)) (now (a .w)) _ _ (omega arith) (omega arith)
     (c .before .before .before .before .before .before .before .before .l-product .ensures) (c .before .before .before .write-u-column .ensures) (omega arith)
 
 pub replace-column-spec : {M : Type 1} → statement M

@@ -29,7 +29,8 @@ backward-requires c κs =
     let a = start .args in
     let p = start .pre in
     let e = c .before .before .before .before .trim .ensures in (
-      record { stride = p .0 .stride; dimension = p .0 .dimension; l-long = rw (c .before .before .before .before .before .before .before .before .clear-l-column .ensures .kept .long) (p .0 .l-long); u-long = p .0 .u-long },
+      record
+          { stride = p .0 .stride; dimension = p .0 .dimension; l-long = rw (c .before .before .before .before .before .before .before .before .clear-l-column .ensures .kept .long) (p .0 .l-long); u-long = p .0 .u-long },
       (omega arith, (rw (c .before .before .before .before .before .before .before .before .before .before .before .before .read-l-column .ensures .kept .long) (omega arith), (omega arith, (omega arith, (omega arith, omega arith))))),
     )
 
@@ -50,7 +51,8 @@ forward-requires c κs =
     let p = start .pre in
     let e = c .before .before .before .before .before .before .before .before .before .before .before .before .before .before .before .before .before .before .before .before .trim .ensures in
     let k = c .before .before .before .before .before .before .before .before .before .before .before .before .before .before .before .backward .ensures in (
-      record { stride = p .0 .stride; dimension = p .0 .dimension; l-long = rw (c .before .before .before .before .before .set-unit-row .ensures .kept .long, k .l-kept .long, c .before .before .before .before .before .before .before .before .before .before .before .before .before .before .before .before .before .before .before .before .before .before .before .before .clear-l-column .ensures .kept .long) (p .0 .l-long); u-long = rw (k .u-kept .long) (p .0 .u-long) },
+      record
+          { stride = p .0 .stride; dimension = p .0 .dimension; l-long = rw (c .before .before .before .before .before .set-unit-row .ensures .kept .long, k .l-kept .long, c .before .before .before .before .before .before .before .before .before .before .before .before .before .before .before .before .before .before .before .before .before .before .before .before .clear-l-column .ensures .kept .long) (p .0 .l-long); u-long = rw (k .u-kept .long) (p .0 .u-long) },
       (omega arith, (omega arith, (omega arith, (omega arith, omega arith)))),
     )
 
@@ -75,8 +77,13 @@ returns c =
     let after-trim = c .before .before .before .before .before .before .before .before .before .before .before .before .before .before .before .before .before .before .before .before .before .before .before .before .before .before .before .trim in
     let a = start .args in
     let p = start .pre in
-    replace-row-done (ieee binary64) (a .numerics .epsilon) (tinyOf binary64 (a .numerics .epsilon) (a .numerics .«update_tiny»)) (a .stride) (a .n) (a .row) (after-trim .result) (now (a .l)) (now (a .u)) (now (a .y)) (now (a .z)) (now (a .w)) _ _ (omega arith) (omega arith)
-    (c .before .before .before .before .before .before .before .before .before .before .before .before .before .before .before .before .before .before .before .before .before .before .before .before .before .before .before .before .before .before .before .before .before .before .before .read-l-column .ensures) (c .before .before .before .before .before .before .before .before .before .before .before .before .before .before .before .before .before .before .before .before .before .before .before .before .before .before .before .before .before .before .before .clear-l-column .ensures) (after-trim .ensures .0) (c .before .before .before .before .before .before .before .before .before .before .before .before .before .before .before .before .before .before .before .before .before .before .backward .ensures) (c .before .before .before .before .before .before .before .before .before .before .before .before .set-unit-row .ensures) (c .before .before .before .before .before .before .forward .ensures)
+    replace-row-done (ieee binary64) (a .numerics .epsilon) (tinyOf binary64 (a .numerics .epsilon) (a .numerics .«update_tiny»)) (a .stride) (a .n) (a .row) (after-trim .result) (now (a .l))
+    (now (a .u)) (now (a .y)) (now (a .z)) (now (a .w)) _ _ (omega arith) (omega arith)
+    (c .before .before .before .before .before .before .before .before .before .before .before .before .before .before .before .before .before .before .before .before .before .before .before .before .before .before .before .before .before .before .before .before .before .before .before .read-l-column .ensures)
+    (c .before .before .before .before .before .before .before .before .before .before .before .before .before .before .before .before .before .before .before .before .before .before .before .before .before .before .before .before .before .before .before .clear-l-column .ensures)
+    (after-trim .ensures .0)
+    (c .before .before .before .before .before .before .before .before .before .before .before .before .before .before .before .before .before .before .before .before .before .before .backward .ensures)
+    (c .before .before .before .before .before .before .before .before .before .before .before .before .set-unit-row .ensures) (c .before .before .before .before .before .before .forward .ensures)
 
 pub replace-row-spec : {M : Type 1} → statement M
 replace-row-spec =

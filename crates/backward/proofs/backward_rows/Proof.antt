@@ -44,7 +44,8 @@ loop-again c =
       omega arith,
       (
         omega arith,
-        performed-as (ieee binary64) (λ S. backwardRow (ieee binary64) (a .numerics .epsilon) (tinyOf binary64 (a .numerics .epsilon) (a .numerics .«update_tiny»)) (a .selected) (a .columns) (c .before .before .before .before .before .before .before .before .before .before .before .before .before .before .loop .row - 1) (backwardRows (ieee binary64) (a .numerics .epsilon) (tinyOf binary64 (a .numerics .epsilon) (a .numerics .«update_tiny»)) (a .selected) (a .columns) (a .selected - c .before .before .before .before .before .before .before .before .before .before .before .before .before .before .loop .row) S))
+        performed-as (ieee binary64)
+            (λ S. backwardRow (ieee binary64) (a .numerics .epsilon) (tinyOf binary64 (a .numerics .epsilon) (a .numerics .«update_tiny»)) (a .selected) (a .columns) (c .before .before .before .before .before .before .before .before .before .before .before .before .before .before .loop .row - 1) (backwardRows (ieee binary64) (a .numerics .epsilon) (tinyOf binary64 (a .numerics .epsilon) (a .numerics .«update_tiny»)) (a .selected) (a .columns) (a .selected - c .before .before .before .before .before .before .before .before .before .before .before .before .before .before .loop .row) S))
             (backward-rows-more (ieee binary64) (a .numerics .epsilon) (tinyOf binary64 (a .numerics .epsilon) (a .numerics .«update_tiny»)) (a .selected) (a .columns) (c .before .before .before .before .before .before .before .before .before .before .before .before .before .before .loop .row) _ (omega arith) (h .1 .0))
             (performed-then (ieee binary64) (h .1 .1) (c .before .before .before .before .before .before .before .before .backward-row .ensures) (omega arith)
             (λ S R. backward-row-same (ieee binary64) (a .numerics .epsilon) (tinyOf binary64 (a .numerics .epsilon) (a .numerics .«update_tiny»)) (a .n) (a .columns) (omega arith) (a .selected) (c .before .before .before .before .before .before .before .before .before .before .before .before .before .before .loop .row - 1) (c .before .before .before .before .before .before .before .before .before .before .before .before .before .before .loop .row) (omega arith) (omega arith) (omega arith))),

@@ -49,7 +49,8 @@ loop-again c =
       omega arith,
       (
         omega arith,
-        performed-as (ieee binary64) (λ S. forwardRow (ieee binary64) (a .numerics .epsilon) (tinyOf binary64 (a .numerics .epsilon) (a .numerics .«update_tiny»)) (a .last) (a .columns) (loop .row) (forwardRows (ieee binary64) (a .numerics .epsilon) (tinyOf binary64 (a .numerics .epsilon) (a .numerics .«update_tiny»)) (a .first) (a .last) (a .columns) (loop .row - a .first) S))
+        performed-as (ieee binary64)
+            (λ S. forwardRow (ieee binary64) (a .numerics .epsilon) (tinyOf binary64 (a .numerics .epsilon) (a .numerics .«update_tiny»)) (a .last) (a .columns) (loop .row) (forwardRows (ieee binary64) (a .numerics .epsilon) (tinyOf binary64 (a .numerics .epsilon) (a .numerics .«update_tiny»)) (a .first) (a .last) (a .columns) (loop .row - a .first) S))
             (forward-rows-more (ieee binary64) (a .numerics .epsilon) (tinyOf binary64 (a .numerics .epsilon) (a .numerics .«update_tiny»)) (a .first) (a .last) (a .columns) (loop .row) _ (h .0))
             (performed-then (ieee binary64) (h .1 .1) (c .before .before .before .before .before .before .forward-row .ensures) (omega arith)
             (λ S R. forward-row-same (ieee binary64) (a .numerics .epsilon) (tinyOf binary64 (a .numerics .epsilon) (a .numerics .«update_tiny»)) (a .n) (a .columns) 0 (omega arith) (a .last) (loop .row) 0 (omega arith) (omega arith) (omega arith))),

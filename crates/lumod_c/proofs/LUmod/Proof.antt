@@ -30,7 +30,9 @@ returns c =
     let m : after-size .result ≡ sizeOf (start .args .mode) = after-size .ensures .0 ∙ ap sizeOf (toZ-ofZ (start .fits .mode)) in
     let e : c .before .before .size2 .result ≡ sizeOf (start .args .n) = c .before .before .size2 .ensures .0 ∙ ap sizeOf (toZ-ofZ (start .fits .n)) in
     let p = (λ t. passedOver (sym m t) (sym e t) (sym (toZ-ofZ (start .fits .krow)) t) (sym (toZ-ofZ (start .fits .kcol)) t)) ∙ sym (c .before .passed-over .ensures) ∙ c .if1 .taken in
-    outcome-11 _ (updateLacksRoom (sizeOf (start .args .n)) (strideOf (start .args .maxmod)) (length (now (start .args .l))) (length (now (start .args .u))) (length (now (start .args .y))) (length (now (start .args .z))) (length (now (start .args .w)))) p (untouched (ieee binary64))
+    outcome-11 _
+    (updateLacksRoom (sizeOf (start .args .n)) (strideOf (start .args .maxmod)) (length (now (start .args .l))) (length (now (start .args .u))) (length (now (start .args .y))) (length (now (start .args .z))) (length (now (start .args .w))))
+    p (untouched (ieee binary64))
 
 stride-requires : tie.Need-stride-requires
 stride-requires c κs = search needs
@@ -47,7 +49,9 @@ returns-2 c =
     let e : size2 .result ≡ sizeOf (start .args .n) = size2 .ensures .0 ∙ ap sizeOf (toZ-ofZ (start .fits .n)) in
     let f : c .before .before .stride .result ≡ strideOf (start .args .maxmod) = c .before .before .stride .ensures .0 ∙ ap strideOf (toZ-ofZ (start .fits .maxmod)) in
     let p = (λ t. passedOver (sym m t) (sym e t) (sym (toZ-ofZ (start .fits .krow)) t) (sym (toZ-ofZ (start .fits .kcol)) t)) ∙ sym (c .before .before .before .before .passed-over .ensures) ∙ c .before .before .before .if1 .left in
-    outcome-12 _ _ p ((λ t. updateLacksRoom (sym e t) (sym f t) (length (now (start .args .l))) (length (now (start .args .u))) (length (now (start .args .y))) (length (now (start .args .z))) (length (now (start .args .w)))) ∙ sym (c .before .update-lacks-room .ensures) ∙ c .if2 .taken) (untouched (ieee binary64))
+    outcome-12 _ _ p
+    ((λ t. updateLacksRoom (sym e t) (sym f t) (length (now (start .args .l))) (length (now (start .args .u))) (length (now (start .args .y))) (length (now (start .args .z))) (length (now (start .args .w)))) ∙ sym (c .before .update-lacks-room .ensures) ∙ c .if2 .taken)
+    (untouched (ieee binary64))
 
 size-requires-3 : tie.Need-size-requires-3
 size-requires-3 c κs = search needs
@@ -98,7 +102,9 @@ returns-3 c =
     let r : size3 .result ≡ sizeOf (start .args .krow) = size3 .ensures .0 ∙ ap sizeOf (toZ-ofZ (start .fits .krow)) in
     let k : size4 .result ≡ sizeOf (start .args .kcol) = size4 .ensures .0 ∙ ap sizeOf (toZ-ofZ (start .fits .kcol)) in
     let p = (λ t. passedOver (sym m t) (sym e t) (sym (toZ-ofZ (start .fits .krow)) t) (sym (toZ-ofZ (start .fits .kcol)) t)) ∙ sym (c .before .before .before .before .before .before .before .before .before .before .before .before .before .before .before .before .before .before .before .before .before .before .passed-over .ensures) ∙ c .before .before .before .before .before .before .before .before .before .before .before .before .before .before .before .before .before .before .before .before .before .if1 .left in
-    outcome-0 _ _ p ((λ t. updateLacksRoom (sym e t) (sym f t) (length (now (start .args .l))) (length (now (start .args .u))) (length (now (start .args .y))) (length (now (start .args .z))) (length (now (start .args .w)))) ∙ sym (c .before .before .before .before .before .before .before .before .before .before .before .before .before .before .before .before .before .before .before .update-lacks-room .ensures) ∙ c .before .before .before .before .before .before .before .before .before .before .before .before .before .before .before .before .before .before .if2 .left) (rw (← m, ← e, ← f, ← r, ← k) (c .before .before .before .before .before .before .before .before .before .before .perform .ensures))
+    outcome-0 _ _ p
+    ((λ t. updateLacksRoom (sym e t) (sym f t) (length (now (start .args .l))) (length (now (start .args .u))) (length (now (start .args .y))) (length (now (start .args .z))) (length (now (start .args .w)))) ∙ sym (c .before .before .before .before .before .before .before .before .before .before .before .before .before .before .before .before .before .before .before .update-lacks-room .ensures) ∙ c .before .before .before .before .before .before .before .before .before .before .before .before .before .before .before .before .before .before .if2 .left)
+    (rw (← m, ← e, ← f, ← r, ← k) (c .before .before .before .before .before .before .before .before .before .before .perform .ensures))
 
 pub LUmod-spec : {M : Type 1} → statement M
 LUmod-spec =

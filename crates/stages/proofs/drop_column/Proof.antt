@@ -41,13 +41,17 @@ returns : tie.Need-returns
 returns c =
     let a = c .before .before .before .before .before .before .before .before .before .before .before .before .before .before .before .before .before .before .before .before .before .before .before .before .before .before .before .before .args in
     let p = c .before .before .before .before .before .before .before .before .before .before .before .before .before .before .before .before .before .before .before .before .before .before .before .before .before .before .before .before .pre in
-    column-dropped (ieee binary64) (a .numerics .epsilon) (tinyOf binary64 (a .numerics .epsilon) (a .numerics .«update_tiny»)) (a .stride) (a .n) (a .column) (now (a .l)) (now (a .u)) (now (a .y)) (now (a .w)) _ _ (omega arith) (omega arith)
-    (c .before .before .before .before .before .before .before .before .before .before .before .before .before .before .before .before .before .before .before .before .read-u-column .ensures) (c .before .before .before .before .before .before .before .before .before .before .before .before .before .before .before .write-u-column .ensures) (c .before .before .before .before .before .before .before .before .restore .ensures)
+    column-dropped (ieee binary64) (a .numerics .epsilon) (tinyOf binary64 (a .numerics .epsilon) (a .numerics .«update_tiny»)) (a .stride) (a .n) (a .column) (now (a .l)) (now (a .u)) (now (a .y))
+    (now (a .w)) _ _ (omega arith) (omega arith)
+    (c .before .before .before .before .before .before .before .before .before .before .before .before .before .before .before .before .before .before .before .before .read-u-column .ensures)
+    (c .before .before .before .before .before .before .before .before .before .before .before .before .before .before .before .write-u-column .ensures)
+    (c .before .before .before .before .before .before .before .before .restore .ensures)
 
 returns-2 : tie.Need-returns-2
 returns-2 c =
     let a = c .before .before .before .before .before .args in
-    last-column-dropped (ieee binary64) (a .numerics .epsilon) (tinyOf binary64 (a .numerics .epsilon) (a .numerics .«update_tiny»)) (a .stride) (a .n) (a .column) (now (a .l)) (now (a .u)) (now (a .y)) (now (a .w)) (omega arith)
+    last-column-dropped (ieee binary64) (a .numerics .epsilon) (tinyOf binary64 (a .numerics .epsilon) (a .numerics .«update_tiny»)) (a .stride) (a .n) (a .column) (now (a .l)) (now (a .u))
+    (now (a .y)) (now (a .w)) (omega arith)
 
 pub drop-column-spec : {M : Type 1} → statement M
 drop-column-spec =

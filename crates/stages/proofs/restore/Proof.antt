@@ -85,7 +85,8 @@ returns c =
     let a = start .args in
     let p = start .pre in
     let k = after-backward .ensures .y-kept .long in
-    restored-performed (ieee binary64) (a .numerics .epsilon) (tinyOf binary64 (a .numerics .epsilon) (a .numerics .«update_tiny»)) (a .stride) (a .n) (a .column) (a .last) (a .columns) (after-trim .result) _ _ _ (now (a .w)) _ _ (omega arith) (omega arith) (omega arith) (omega arith) (omega arith)
+    restored-performed (ieee binary64) (a .numerics .epsilon) (tinyOf binary64 (a .numerics .epsilon) (a .numerics .«update_tiny»)) (a .stride) (a .n) (a .column) (a .last) (a .columns)
+    (after-trim .result) _ _ _ (now (a .w)) _ _ (omega arith) (omega arith) (omega arith) (omega arith) (omega arith)
     (rw add-one at (after-trim .ensures .0)) (rw add-one at (after-backward .ensures)) (c .before .before .before .before .before .before .forward .ensures)
 
 pub restore-spec : {M : Type 1} → statement M

@@ -39,7 +39,8 @@ returns c =
     let a = start .args in
     let p = start .pre in
     let k = after-fill .ensures .kept .long in
-    unit-row-set (ieee binary64) (a .stride) (a .n) (a .row) (a .column) (c .l-index .result) (now (a .l)) (omega arith) (omega arith) (omega arith) (c .l-index .ensures .0) (omega arith) (after-fill .ensures)
+    unit-row-set (ieee binary64) (a .stride) (a .n) (a .row) (a .column) (c .l-index .result) (now (a .l)) (omega arith) (omega arith) (omega arith) (c .l-index .ensures .0) (omega arith)
+    (after-fill .ensures)
 
 pub set-unit-row-spec : {M : Type 1} → statement M
 set-unit-row-spec =

@@ -53,7 +53,8 @@ returns c =
     let a = start .args in
     let p = start .pre in
     let b = c .before .before .before .before .before .before .before .before .before .before .before .before .before .before .before .zero-based .ensures in
-    push-performed (ieee binary64) zeroBasedEpsilon zeroBasedTiny (a .mode) (a .stride) (a .n) (a .row) (a .column) (now (a .l)) (now (a .u)) (now (a .y)) (now (a .z)) (now (a .w)) (c .before .before .before .before .before .before .before .before .before .before .before .before .before .before .if1 .taken) (omega arith)
+    push-performed (ieee binary64) zeroBasedEpsilon zeroBasedTiny (a .mode) (a .stride) (a .n) (a .row) (a .column) (now (a .l)) (now (a .u)) (now (a .y)) (now (a .z)) (now (a .w))
+    (c .before .before .before .before .before .before .before .before .before .before .before .before .before .before .if1 .taken) (omega arith)
     (rw (b .0, b .1) at (c .before .before .before .before .before .before .before .before .push .ensures))
 
 same-length-6 : tie.Need-same-length-6
@@ -78,7 +79,8 @@ returns-2 c =
     let a = start .args in
     let p = start .pre in
     let b = c .before .before .before .before .before .before .before .before .before .before .before .before .before .before .before .before .zero-based .ensures in
-    column-performed (ieee binary64) zeroBasedEpsilon zeroBasedTiny (a .mode) (a .stride) (a .n) (a .row) (a .column) (now (a .l)) (now (a .u)) (now (a .y)) (now (a .z)) (now (a .w)) (if2 .taken) (p .1 .1 .1 .1 .1 .1 .1 .1 .0 (if2 .taken))
+    column-performed (ieee binary64) zeroBasedEpsilon zeroBasedTiny (a .mode) (a .stride) (a .n) (a .row) (a .column) (now (a .l)) (now (a .u)) (now (a .y)) (now (a .z)) (now (a .w)) (if2 .taken)
+    (p .1 .1 .1 .1 .1 .1 .1 .1 .0 (if2 .taken))
     (rw (b .0, b .1) at (c .before .before .before .before .before .before .before .before .replace-column .ensures))
 
 same-length-11 : tie.Need-same-length-11
@@ -104,7 +106,8 @@ returns-3 c =
     let a = start .args in
     let p = start .pre in
     let b = c .before .before .before .before .before .before .before .before .before .before .before .before .before .before .before .before .before .before .before .zero-based .ensures in
-    row-performed (ieee binary64) zeroBasedEpsilon zeroBasedTiny (a .mode) (a .stride) (a .n) (a .row) (a .column) (now (a .l)) (now (a .u)) (now (a .y)) (now (a .z)) (now (a .w)) (if3 .taken) (p .1 .1 .1 .1 .1 .1 .1 .0 (omega arith))
+    row-performed (ieee binary64) zeroBasedEpsilon zeroBasedTiny (a .mode) (a .stride) (a .n) (a .row) (a .column) (now (a .l)) (now (a .u)) (now (a .y)) (now (a .z)) (now (a .w)) (if3 .taken)
+    (p .1 .1 .1 .1 .1 .1 .1 .0 (omega arith))
     (rw (b .0, b .1) at (c .before .before .before .before .before .before .before .before .before .before .replace-row .ensures))
 
 same-length-16 : tie.Need-same-length-16
@@ -131,7 +134,8 @@ returns-4 c =
     let a = start .args in
     let p = start .pre in
     let b = c .before .before .before .before .before .before .before .before .before .before .before .before .before .before .before .before .before .before .before .zero-based .ensures in
-    remove-performed (ieee binary64) zeroBasedEpsilon zeroBasedTiny (a .mode) (a .stride) (a .n) (a .row) (a .column) (now (a .l)) (now (a .u)) (now (a .y)) (now (a .z)) (now (a .w)) (omega arith) (p .1 .1 .1 .1 .1 .1 .1 .0 (omega arith)) (p .1 .1 .1 .1 .1 .1 .1 .1 .1 (omega arith))
+    remove-performed (ieee binary64) zeroBasedEpsilon zeroBasedTiny (a .mode) (a .stride) (a .n) (a .row) (a .column) (now (a .l)) (now (a .u)) (now (a .y)) (now (a .z)) (now (a .w)) (omega arith)
+    (p .1 .1 .1 .1 .1 .1 .1 .0 (omega arith)) (p .1 .1 .1 .1 .1 .1 .1 .1 .1 (omega arith))
     (rw (b .0, b .1) at (c .before .before .before .before .before .before .before .before .before .before .remove .ensures))
 
 pub perform-spec : {M : Type 1} → statement M

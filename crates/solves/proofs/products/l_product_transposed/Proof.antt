@@ -58,7 +58,8 @@ returns : tie.Need-returns Inv-loop μ-loop
 returns c =
     let a = c .before .before .before .before .before .before .before .before .before .args in
     let e : c .before .loop .j ≡ a .n = omega arith in
-    row-sums-all (ieee binary64) (a .stride) (a .n) (now (a .l)) (now (a .input)) (written-over (ieee binary64) (written-from-0 (ieee binary64) (c .before .before .before .before .fill .ensures)) (rw e at (c .before .loop .inv .1)))
+    row-sums-all (ieee binary64) (a .stride) (a .n) (now (a .l)) (now (a .input))
+    (written-over (ieee binary64) (written-from-0 (ieee binary64) (c .before .before .before .before .fill .ensures)) (rw e at (c .before .loop .inv .1)))
 
 pub l-product-transposed-spec : {M : Type 1} → statement M
 l-product-transposed-spec =

@@ -58,7 +58,8 @@ loop-again c =
     let a = c .before .before .before .before .before .before .before .before .before .args in
     let k = loop .inv .1 .kept .long in (
       omega arith,
-      forward-more (ieee binary64) (a .stride) (a .n) (loop .row) (c .before .before .u-index .result) (now (a .u)) (now (a .b)) (loop .b) (omega arith) (omega arith) (omega arith) (c .before .before .u-index .ensures .0) refl
+      forward-more (ieee binary64) (a .stride) (a .n) (loop .row) (c .before .before .u-index .result) (now (a .u)) (now (a .b)) (loop .b) (omega arith) (omega arith) (omega arith)
+          (c .before .before .u-index .ensures .0) refl
           (loop .inv .1) (c .before .before .before .dot-u-column .ensures),
     )
 
