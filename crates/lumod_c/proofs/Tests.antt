@@ -40,10 +40,10 @@ inside (pos k) n e = leb-false n k e
 inside (negsuc k) n e = absurd (subst So e tt)
 
 module _ (mode one : ℕ) (k : ℤ) (n : ℕ) (e : indexOutside mode one k n ≡ false) where
-  pub index-inside : mode ≡ one → sizeOf k < n
+  index-inside : mode ≡ one → sizeOf k < n
   index-inside h = inside k n (rw (eq-eqb mode one h) at e)
 
-  pub index-inside-4 : mode ≡ 4 → sizeOf k < n
+  index-inside-4 : mode ≡ 4 → sizeOf k < n
   index-inside-4 h = go (eqb mode one) (rw (eq-eqb mode 4 h) at e)
     where
       go : (b : Bool) → ((b || true) && outside k n) ≡ false → sizeOf k < n

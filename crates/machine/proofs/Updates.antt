@@ -23,7 +23,7 @@ module _ (N : NumberForm) (E T : N .Value) where
   -- ---- a column put in place and the triangle restored: replace column, and the first half of remove
 
   module _ (n columns k : ℕ) (hc : columns ≤ n) (hk : k < columns) where
-    pub put-column-same : {S R : Work Value} → AgreeWithin n columns columns n S R → AgreeWithin n columns columns n (putColumn k S) (putColumn k R)
+    put-column-same : {S R : Work Value} → AgreeWithin n columns columns n S R → AgreeWithin n columns columns n (putColumn k S) (putColumn k R)
     unfolding putColumn
     put-column-same h = record {
       L = h .L;

@@ -27,7 +27,7 @@ module _ (N : NumberForm) where
   -- ---- what is written
 
   -- the same values by another name
-  pub written-as : {place : ℕ → ℕ} {n : ℕ} (f : Vector Value) {g : Vector Value} {a b : List Value} → ((k : ℕ) → k < n → f k ≡ g k) → Written N place n f a b → Written N place n g a b
+  written-as : {place : ℕ → ℕ} {n : ℕ} (f : Vector Value) {g : Vector Value} {a b : List Value} → ((k : ℕ) → k < n → f k ≡ g k) → Written N place n f a b → Written N place n g a b
   written-as f e h = record { value = λ k l. h .value k l ∙ e k l; kept = h .kept }
 
   -- written over
@@ -41,11 +41,11 @@ module _ (N : NumberForm) where
   }
 
   -- nothing is written where each entry is what it was
-  pub written-same : (n : ℕ) (l : List Value) → Written N (λ i. i) n (entry N l) l l
+  written-same : (n : ℕ) (l : List Value) → Written N (λ i. i) n (entry N l) l l
   written-same n l = record { value = λ k h. refl; kept = kept-all N }
 
   -- one entry of a vector
-  pub written-put : (n row : ℕ) {f : Vector Value} {a b : List Value} {x x′ : Value} → row < n → n ≤ length b → x ≡ x′ → Written N (λ i. i) n f a b
+  written-put : (n row : ℕ) {f : Vector Value} {a b : List Value} {x x′ : Value} → row < n → n ≤ length b → x ≡ x′ → Written N (λ i. i) n f a b
       → Written N (λ i. i) n (put row x′ f) a (set b row x)
   written-put n row {f} {a} {b} {x} hr hb e h = record {
     value = λ k l. pick (eqb k row)

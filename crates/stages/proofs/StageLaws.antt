@@ -39,10 +39,6 @@ module _ (N : NumberForm) where
         pick (eqb j column) (λ s. ap (viewL N c l′ i) (eqb→eq j column s) ∙ h .value i hi)
         (λ s. h .kept .same _ (λ w. neqb→ne j column s (lIndex-injective c i j (w .0) column hj hc (w .2) .1)))
 
-    -- the rows below are as they were
-    pub l-column-below : (i j : ℕ) → rows ≤ i → j < c → viewL N c l′ i j ≡ viewL N c l i j
-    l-column-below i j hi hj = h .kept .same _ (λ w. omega (arith, lIndex-injective c i j (w .0) column hj hc (w .2) .0))
-
     pub l-column-kept : (n : ℕ) → rows ≤ n → column < n → Kept N (LPlace c n) l l′
     l-column-kept n hr hn = kept-more N (λ q w. (w .0, column, omega arith, hn, w .2)) (h .kept)
 
@@ -113,7 +109,7 @@ module _ (N : NumberForm) where
     backward-agrees c n start selected columns lo l u y v hk hs hl p a = within-trans (p .agree) (backward-same N E T n columns hk start selected lo hl hs a)
 
     -- y(k) takes v(selected)
-    pub selected-put : (c n k s columns : ℕ) (l u y v : List Value) {S : Work Value} → columns ≤ length y → k < columns → s < n → AgreeWithin n (suc k) columns n (workOf N c l u y v) S
+    selected-put : (c n k s columns : ℕ) (l u y v : List Value) {S : Work Value} → columns ≤ length y → k < columns → s < n → AgreeWithin n (suc k) columns n (workOf N c l u y v) S
         → AgreeWithin n k columns n (workOf N c l u (set y k (entry N v s)) v) (putSelected k s S)
     unfolding putSelected
     selected-put c n k s columns l u y v hy hk hs a = record {
