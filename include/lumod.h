@@ -1,38 +1,48 @@
 /*
- * lumod.h: the zero-based calls on the factors of a matrix that is being
- * changed. Link with liblumod_c.a. For C (C99 on) and C++.
+ * lumod.h: calls on the factors of a matrix that is being changed. Link with
+ * liblumod_c.a. For C (C99 on) and C++, where size_t has 64 bits.
  *
  * The factors of an n by n matrix A are L and U with L * A = U. L is square,
- * U is upper triangular. LUmod appends, replaces and removes rows and columns
- * of A. Lprod and Usolve are the two halves of a solve. A' is the transpose:
+ * U is upper triangular, and n is the dimension. Updates append, replace and
+ * remove rows and columns of A and bring L and U up to date. A solve gives the
+ * x with A * x = b, or with A' * x = b, where A' is the transpose. There are
+ * two families of calls:
  *
- *     A * x = b   Lprod with mode 1 from b to x, then Usolve with mode 1 on x.
- *     A' * x = b  Usolve with mode 2 on b, then Lprod with mode 2 from b to x.
+ *     managed     lumod_push and all others whose names begin with lumod_. A
+ *                 solve is one call, and tests U's diagonal.
+ *     zero-based  LUmod, which is every update by a mode, and Lprod and
+ *                 Usolve, the two halves of a solve. No diagonal is tested.
  *
  * Storage. The caller owns every buffer. Rows and columns are numbered from 0.
- * The stride is the larger of maxmod and 1. It is the largest dimension that
- * the storage can hold, and it stays the same as long as the factors are kept.
+ * The capacity c is the largest dimension that the storage can hold, and it
+ * stays the same as long as the factors are kept. In the zero-based calls it
+ * is the stride, which is the larger of maxmod and 1.
  *
- *     L(i,j)           is l[i * stride + j]
- *     U(i,j), i <= j,  is u[i * stride - i * (i - 1) / 2 + j - i]
- *     l_len            is at least stride * stride
- *     u_len            is at least stride * (stride + 1) / 2
+ *     L(i,j)           is l[i * c + j]
+ *     U(i,j), i <= j,  is u[i * c - i * (i - 1) / 2 + j - i]
+ *     solve work       is l[c * c] to l[c * (c + 1) - 1], managed calls only
+ *     l_len            is at least c * (c + 1), in zero-based calls c * c
+ *     u_len            is at least c * (c + 1) / 2
  *
  * The active entries at dimension n are L(i,j) with i < n and j < n, and
  * U(i,j) with i <= j and j < n. Longer buffers are allowed. An empty matrix
- * has dimension 0 and no active entries: new storage may hold anything.
+ * has dimension 0 and no active entries: new storage may hold anything. Above
+ * dimension 0 the active entries are those that an earlier call left at the
+ * same capacity. This is not tested: whatever they hold is computed with.
  *
- * Buffers. A buffer is a pointer and then its length in doubles. A pointer is
- * never null, also where the length is 0. It is aligned for double, and as
- * many doubles as the length says can be read and written there. The buffers
- * of one call do not overlap. These four points are not tested.
+ * Buffers. A buffer is a pointer and then its length in doubles. The pointer
+ * is aligned for double, and as many doubles as the length says can be read
+ * there, and written unless it is a pointer to const. Every other pointer
+ * leads to one number that can be read and written. No pointer is null, also
+ * where a length is 0. What the pointers of one call lead to does not overlap.
+ * These points are not tested.
  *
  * Numbers. Every operation is IEEE 754 binary64, rounded once, in the default
  * floating-point environment: to nearest, with subnormals. Zeros, infinities
- * and NaNs are ordinary data: they are computed with, and no diagonal is
- * tested. A computed NaN may have any sign and payload. The tolerances of the
- * updates are E, the double nearest 2.22e-16, and T, which is E times the
- * double nearest 0.0001.
+ * and NaNs are ordinary data: they are computed with. A computed NaN may have
+ * any sign and payload. The tolerances of the updates are E, which is 2^-52 in
+ * the managed calls and the double nearest 2.22e-16 in the zero-based ones,
+ * and T, which is E times the double nearest 0.0001.
  *
  * State. The functions keep nothing between calls. Calls on different buffers
  * may run at the same time.
@@ -43,14 +53,253 @@
 #include <stddef.h>
 #include <stdint.h>
 
-/* What the functions return. With 11 and 12 nothing is written anywhere. */
-#define LUMOD_OK 0u           /* carried out */
-#define LUMOD_PASSED_OVER 11u /* n, the mode or an index calls for nothing */
-#define LUMOD_TOO_SMALL 12u   /* the stride or a buffer is too small for n */
+/*
+ * What the functions return. All but LUMOD_OK are refusals, and with a refusal
+ * nothing is written anywhere, except that *index is written with 9 and 10.
+ */
+#define LUMOD_OK 0u                     /* carried out */
+#define LUMOD_INVALID_DIMENSION 1u      /* n is more than the capacity */
+#define LUMOD_SIZE_OVERFLOW 2u          /* a length would exceed SIZE_MAX */
+#define LUMOD_INSUFFICIENT_STORAGE 3u   /* l or u short, or y, z, w unequal */
+#define LUMOD_CAPACITY_EXCEEDED 4u      /* a push where n is the capacity */
+#define LUMOD_ROW_OUT_OF_BOUNDS 5u      /* the row index is n or more */
+#define LUMOD_COLUMN_OUT_OF_BOUNDS 6u   /* the column index is n or more */
+#define LUMOD_LENGTH_MISMATCH 7u        /* data that are not n long */
+#define LUMOD_INSUFFICIENT_WORKSPACE 8u /* y, z and w too short for n */
+#define LUMOD_SINGULAR 9u               /* a zero on U's diagonal */
+#define LUMOD_NON_FINITE_DIAGONAL 10u   /* an infinity or NaN on it */
+#define LUMOD_PASSED_OVER 11u           /* n, mode or index: nothing to do */
+#define LUMOD_TOO_SMALL 12u             /* stride or buffer too small for n */
 
 #ifdef __cplusplus
 extern "C" {
 #endif
+
+/*
+ * The managed calls.
+ *
+ * A call tests its refusals in the order in which its comment lists them, and
+ * returns the first whose condition holds. Where none holds it is carried out
+ * and returns LUMOD_OK. Two groups of tests are common to many calls. The
+ * storage tests are
+ *
+ *     LUMOD_INVALID_DIMENSION     n is more than c.
+ *     LUMOD_SIZE_OVERFLOW         c + 1 or c * (c + 1) is more than SIZE_MAX,
+ *                                 which means that c is 2^32 or more.
+ *     LUMOD_INSUFFICIENT_STORAGE  l_len is less than c * (c + 1), or u_len is
+ *                                 less than c * (c + 1) / 2.
+ *
+ * and the workspace test is
+ *
+ *     LUMOD_INSUFFICIENT_STORAGE  y_len, z_len and w_len are not all equal.
+ *
+ * The workspaces y, z and w need no content. In the comments on lumod_push and
+ * lumod_remove, n is what *n holds before the call. A scratch entry may hold
+ * anything after the call. Every entry that is not listed is unchanged.
+ */
+
+/*
+ * lumod_storage_lengths gives the lengths of l and u for a capacity.
+ *
+ * Needs: nothing but the capacity, which is c here.
+ *
+ * Returns:
+ *     LUMOD_OK             The lengths are in *l and *u.
+ *     LUMOD_SIZE_OVERFLOW  As in the storage tests.
+ *
+ * Leaves, with LUMOD_OK:
+ *     *l  c * (c + 1)
+ *     *u  c * (c + 1) / 2
+ */
+uint32_t lumod_storage_lengths(size_t capacity, size_t *l, size_t *u);
+
+/*
+ * lumod_from_storage tells whether storage can be adopted at dimension n and
+ * capacity c. No other call depends on it: each tests its storage itself.
+ *
+ * Needs: the lengths of l and u. What they hold is not looked at.
+ *
+ * Returns:
+ *     LUMOD_OK  The storage can be adopted.
+ *     the storage tests
+ *
+ * Leaves: l and u unchanged.
+ */
+uint32_t lumod_from_storage(size_t n, size_t c, const double *l, size_t l_len,
+                            const double *u, size_t u_len);
+
+/*
+ * lumod_push appends a last row and a last column. Where A was the matrix, it
+ * becomes
+ *
+ *     A    column
+ *     row  diagonal
+ *
+ * Needs: factors of dimension n less than c; row and column exactly n long;
+ * y, z and w at least n + 1 long.
+ *
+ * Returns:
+ *     LUMOD_OK                      The row and the column were appended.
+ *     the storage tests
+ *     the workspace test
+ *     LUMOD_CAPACITY_EXCEEDED       n is c.
+ *     LUMOD_LENGTH_MISMATCH         row_len or column_len is not n.
+ *     LUMOD_INSUFFICIENT_WORKSPACE  y_len is less than n + 1.
+ *
+ * Leaves, with LUMOD_OK:
+ *     *n       n + 1
+ *     l        L(i,j), i <= n and j <= n.
+ *     u        U(i,j), i <= j <= n.
+ *     y, z, w  The first n + 1 entries are scratch.
+ */
+uint32_t lumod_push(size_t *n, size_t c, double *l, size_t l_len, double *u,
+                    size_t u_len, double *y, size_t y_len, double *z,
+                    size_t z_len, double *w, size_t w_len, const double *row,
+                    size_t row_len, const double *column, size_t column_len,
+                    double diagonal);
+
+/*
+ * lumod_replace_row replaces a row by values.
+ *
+ * Needs: factors of dimension n; row less than n; values exactly n long; y, z
+ * and w at least n long.
+ *
+ * Returns:
+ *     LUMOD_OK                      The row was replaced.
+ *     the storage tests
+ *     the workspace test
+ *     LUMOD_ROW_OUT_OF_BOUNDS       row is n or more.
+ *     LUMOD_LENGTH_MISMATCH         values_len is not n.
+ *     LUMOD_INSUFFICIENT_WORKSPACE  y_len is less than n.
+ *
+ * Leaves, with LUMOD_OK:
+ *     l        L(i,j), i < n and j < n.
+ *     u        U(i,j), i <= j < n.
+ *     y, z, w  The first n entries are scratch.
+ */
+uint32_t lumod_replace_row(size_t n, size_t c, double *l, size_t l_len,
+                           double *u, size_t u_len, double *y, size_t y_len,
+                           double *z, size_t z_len, double *w, size_t w_len,
+                           size_t row, const double *values,
+                           size_t values_len);
+
+/*
+ * lumod_replace_column replaces a column by values.
+ *
+ * Needs: factors of dimension n; column less than n; values exactly n long; y,
+ * z and w at least n long.
+ *
+ * Returns:
+ *     LUMOD_OK                      The column was replaced.
+ *     the storage tests
+ *     the workspace test
+ *     LUMOD_COLUMN_OUT_OF_BOUNDS    column is n or more.
+ *     LUMOD_LENGTH_MISMATCH         values_len is not n.
+ *     LUMOD_INSUFFICIENT_WORKSPACE  y_len is less than n.
+ *
+ * Leaves, with LUMOD_OK: what lumod_replace_row leaves.
+ */
+uint32_t lumod_replace_column(size_t n, size_t c, double *l, size_t l_len,
+                              double *u, size_t u_len, double *y, size_t y_len,
+                              double *z, size_t z_len, double *w, size_t w_len,
+                              size_t column, const double *values,
+                              size_t values_len);
+
+/*
+ * lumod_remove removes a row and a column. The last row takes the place of the
+ * row and the last column the place of the column, unless it is itself the one
+ * that is removed.
+ *
+ * Needs: factors of dimension n; row and column less than n; y, z and w at
+ * least n long.
+ *
+ * Returns:
+ *     LUMOD_OK                      The row and the column were removed.
+ *     the storage tests
+ *     the workspace test
+ *     LUMOD_ROW_OUT_OF_BOUNDS       row is n or more.
+ *     LUMOD_COLUMN_OUT_OF_BOUNDS    column is n or more.
+ *     LUMOD_INSUFFICIENT_WORKSPACE  y_len is less than n.
+ *
+ * Leaves, with LUMOD_OK:
+ *     *n             n - 1
+ *     *moved_row     Where a row moved, the index that it had: n - 1, which is
+ *                    also the new dimension. SIZE_MAX where row was n - 1 and
+ *                    nothing moved.
+ *     *moved_column  The same for columns.
+ *     l              L(i,j), i < n - 1 and j < n - 1. L(n - 1,j) and
+ *                    L(j,n - 1) with j < n are scratch.
+ *     u              U(i,j), i <= j < n - 1. U(i,n - 1) with i < n is scratch.
+ *     y, z, w        The first n entries are scratch.
+ */
+uint32_t lumod_remove(size_t *n, size_t c, double *l, size_t l_len, double *u,
+                      size_t u_len, double *y, size_t y_len, double *z,
+                      size_t z_len, double *w, size_t w_len, size_t row,
+                      size_t column, size_t *moved_row, size_t *moved_column);
+
+/*
+ * lumod_solve solves A * x = b in place. rhs is b before the call and x after
+ * it. First b becomes the product L * b, whose entry i is the sum of
+ * L(i,j) * b(j), j from 0 upward. Then, for row from n - 1 down to 0, b(row)
+ * becomes (b(row) - sum) / U(row,row), with the sum of U(row,j) * b(j), j from
+ * row + 1 upward. Every sum starts at +0.
+ *
+ * Needs: factors of dimension n with no zero, infinity or NaN among the
+ * U(i,i), i < n; rhs exactly n long. The solve work needs no content.
+ *
+ * Returns:
+ *     LUMOD_OK                   The solution is in rhs.
+ *     the storage tests
+ *     LUMOD_LENGTH_MISMATCH      rhs_len is not n.
+ *     LUMOD_SINGULAR             Of the U(i,i), i < n, that are +0, -0,
+ *                                infinite or NaN, the first is +0 or -0.
+ *     LUMOD_NON_FINITE_DIAGONAL  The first is infinite or NaN.
+ *
+ * Leaves, with LUMOD_OK:
+ *     rhs  The solution.
+ *     l    The first n entries of the solve work are scratch.
+ * With LUMOD_SINGULAR and LUMOD_NON_FINITE_DIAGONAL:
+ *     *index  The i of that first U(i,i).
+ */
+uint32_t lumod_solve(size_t n, size_t c, double *l, size_t l_len,
+                     const double *u, size_t u_len, double *rhs,
+                     size_t rhs_len, size_t *index);
+
+/*
+ * lumod_solve_transpose solves A' * x = b in place. rhs is b before the call
+ * and x after it. First, for row from 0 up to n - 1, b(row) becomes
+ * (b(row) - sum) / U(row,row), with the sum of U(j,row) * b(j), j from 0 up to
+ * row - 1. Then b becomes the product L' * b, whose entry i is the sum of
+ * L(j,i) * b(j), j from 0 upward. Every sum starts at +0.
+ *
+ * Needs, returns and leaves what lumod_solve does.
+ */
+uint32_t lumod_solve_transpose(size_t n, size_t c, double *l, size_t l_len,
+                               const double *u, size_t u_len, double *rhs,
+                               size_t rhs_len, size_t *index);
+
+/*
+ * lumod_ready tells whether U's diagonal allows a solve.
+ *
+ * Needs: factors of dimension n.
+ *
+ * Returns:
+ *     LUMOD_OK  The answer is in *ready.
+ *     the storage tests
+ *
+ * Leaves, with LUMOD_OK:
+ *     *ready  1 where no U(i,i), i < n, is zero, infinite or NaN, else 0.
+ *     l, u    Unchanged.
+ */
+uint32_t lumod_ready(size_t n, size_t c, const double *l, size_t l_len,
+                     const double *u, size_t u_len, uint8_t *ready);
+
+/*
+ * The zero-based calls. A solve is two of them:
+ *
+ *     A * x = b   Lprod with mode 1 from b to x, then Usolve with mode 1 on x.
+ *     A' * x = b  Usolve with mode 2 on b, then Lprod with mode 2 from b to x.
+ */
 
 /*
  * LUmod changes one row, one column or both, and brings L and U up to date.

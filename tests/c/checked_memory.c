@@ -5,7 +5,8 @@
 #include <stdio.h>
 #include <string.h>
 
-static const char *const buffer_names[BUFFERS] = {"l", "u", "y", "z", "w"};
+static const char *const buffer_names[BUFFERS] = {"l", "u",   "y",      "z",
+                                                  "w", "row", "column", "rhs"};
 
 static const char *group;
 static long checks, failures;
@@ -18,7 +19,7 @@ void begin_group(const char *name) {
 }
 
 void end_group(void) {
-    printf("%-54s %6ld checks, %ld failed\n", group, checks - checks_before,
+    printf("%-54s %7ld checks, %ld failed\n", group, checks - checks_before,
            failures - failures_before);
 }
 
@@ -27,26 +28,19 @@ int end_checks(void) {
     return failures != 0;
 }
 
-struct call make_call(int32_t mode, int32_t maxmod, int32_t n) {
-    struct call c = {mode, maxmod, n, 0, 0};
-    return c;
-}
-
-size_t stride_of(int32_t maxmod) { return maxmod > 1 ? (size_t)maxmod : 1; }
-
 double *buffer_at(struct memory *m, int buffer, size_t place) {
     return &m->cells[buffer][BESIDE + place];
 }
 
-static double *l_at(struct memory *m, struct call c, size_t i, size_t j) {
-    return buffer_at(m, L, i * stride_of(c.maxmod) + j);
+double *l_at(struct memory *m, size_t capacity, size_t i, size_t j) {
+    return buffer_at(m, L, i * capacity + j);
 }
 
 /* Row i of U starts after the rows above it, each a double shorter than the one before. */
-static double *u_at(struct memory *m, struct call c, size_t i, size_t j) {
+double *u_at(struct memory *m, size_t capacity, size_t i, size_t j) {
     size_t start = 0;
     for (size_t row = 0; row < i; row++) {
-        start += stride_of(c.maxmod) - row;
+        start += capacity - row;
     }
     return buffer_at(m, U, start + j - i);
 }
@@ -55,137 +49,118 @@ void put(struct memory *m, int buffer, size_t count, const double *values) {
     memcpy(buffer_at(m, buffer, 0), values, count * sizeof *values);
 }
 
-static void mark(struct memory *m, size_t buffer) {
-    for (size_t place = 0; place < CELLS; place++) {
-        uint64_t pattern = UINT64_C(0x7ff8000000000001) + (buffer << 16) + place;
-        memcpy(&m->cells[buffer][place], &pattern, sizeof pattern);
-    }
-}
-
-void prepare(struct memory *m, struct call c, size_t more) {
-    size_t stride = stride_of(c.maxmod);
-    for (size_t b = 0; b < BUFFERS; b++) {
-        mark(m, b);
-        m->length[b] = (size_t)c.n + more;
-    }
-    m->length[L] = stride * stride + more;
-    m->length[U] = stride * (stride + 1) / 2 + more;
-}
-
-void scramble_workspaces(struct memory *m) {
-    for (size_t b = Y; b < BUFFERS; b++) {
-        mark(m, b);
-    }
-}
-
-void put_factors(struct memory *m, struct call c, size_t n, const double *l, const double *u) {
+void put_l(struct memory *m, size_t capacity, size_t n, const double *l) {
     for (size_t i = 0; i < n; i++) {
         for (size_t j = 0; j < n; j++) {
-            *l_at(m, c, i, j) = *l++;
-        }
-        for (size_t j = i; j < n; j++) {
-            *u_at(m, c, i, j) = *u++;
+            *l_at(m, capacity, i, j) = *l++;
         }
     }
 }
 
-uint32_t call_lumod(struct call c, struct memory *m) {
-    return LUmod(c.mode, c.maxmod, c.n, c.krow, c.kcol, buffer_at(m, L, 0), m->length[L],
-                 buffer_at(m, U, 0), m->length[U], buffer_at(m, Y, 0), m->length[Y],
-                 buffer_at(m, Z, 0), m->length[Z], buffer_at(m, W, 0), m->length[W]);
+void put_u(struct memory *m, size_t capacity, size_t n, const double *u) {
+    for (size_t i = 0; i < n; i++) {
+        for (size_t j = i; j < n; j++) {
+            *u_at(m, capacity, i, j) = *u++;
+        }
+    }
 }
 
-uint32_t call_lprod(struct call c, struct memory *m) {
-    return Lprod(c.mode, c.maxmod, c.n, buffer_at(m, L, 0), m->length[L], buffer_at(m, Y, 0),
-                 m->length[Y], buffer_at(m, Z, 0), m->length[Z]);
+void copy_active(struct memory *to, struct memory *from, size_t capacity, size_t n) {
+    for (size_t i = 0; i < n; i++) {
+        for (size_t j = 0; j < n; j++) {
+            *l_at(to, capacity, i, j) = *l_at(from, capacity, i, j);
+        }
+        for (size_t j = i; j < n; j++) {
+            *u_at(to, capacity, i, j) = *u_at(from, capacity, i, j);
+        }
+    }
 }
 
-uint32_t call_usolve(struct call c, struct memory *m) {
-    return Usolve(c.mode, c.maxmod, c.n, buffer_at(m, U, 0), m->length[U], buffer_at(m, Y, 0),
-                  m->length[Y]);
+void mark_all(struct memory *m) {
+    for (size_t b = 0; b < BUFFERS; b++) {
+        for (size_t place = 0; place < CELLS; place++) {
+            uint64_t pattern = UINT64_C(0x7ff8000000000001) + (b << 16) + place;
+            memcpy(&m->cells[b][place], &pattern, sizeof pattern);
+        }
+    }
 }
 
-void check_number(const char *what, uint32_t found, uint32_t expected) {
+void number_all(struct memory *m) {
+    for (int b = 0; b < BUFFERS; b++) {
+        for (int place = 0; place < CELLS; place++) {
+            m->cells[b][place] = 64 * b + place + 0.25;
+        }
+    }
+}
+
+void set_workspace_lengths(struct memory *m, size_t length) {
+    m->length[Y] = m->length[Z] = m->length[W] = length;
+}
+
+void check_number(const char *what, uint64_t found, uint64_t expected) {
     checks++;
     if (found != expected) {
         failures++;
-        printf("%s: %s: %" PRIu32 ", expected %" PRIu32 "\n", group, what, found, expected);
+        printf("%s: %s: %" PRIu64 ", expected %" PRIu64 "\n", group, what, found, expected);
     }
 }
 
-static void check_cell(const char *what, int buffer, int place, double found, double expected) {
+static void check_cell(const char *what, int buffer, int place, const double *found,
+                       const double *expected) {
     uint64_t found_bits, expected_bits;
-    memcpy(&found_bits, &found, sizeof found);
-    memcpy(&expected_bits, &expected, sizeof expected);
+    memcpy(&found_bits, found, sizeof found_bits);
+    memcpy(&expected_bits, expected, sizeof expected_bits);
     checks++;
     if (found_bits != expected_bits) {
         failures++;
         printf("%s: %s: %s[%d] is %016" PRIx64 " (%g), expected %016" PRIx64 " (%g)\n", group,
-               what, buffer_names[buffer], place, found_bits, found, expected_bits, expected);
+               what, buffer_names[buffer], place, found_bits, *found, expected_bits, *expected);
     }
 }
 
 void check_memory(const char *what, const struct memory *found, const struct memory *expected) {
     for (int b = 0; b < BUFFERS; b++) {
         for (int place = 0; place < CELLS; place++) {
-            check_cell(what, b, place - BESIDE, found->cells[b][place],
-                       expected->cells[b][place]);
+            check_cell(what, b, place - BESIDE, &found->cells[b][place],
+                       &expected->cells[b][place]);
         }
     }
 }
 
-/* Scratch may hold anything: what was found there is then what is expected. */
-static void allow_scratch(struct memory *expected, struct memory *found, struct call c) {
-    size_t n = (size_t)c.n;
-    for (int b = Y; b < BUFFERS; b++) {
-        memcpy(buffer_at(expected, b, 0), buffer_at(found, b, 0), n * sizeof(double));
-    }
-    for (size_t k = 0; c.mode == 4 && k < n; k++) {
-        *l_at(expected, c, n - 1, k) = *l_at(found, c, n - 1, k);
-        *l_at(expected, c, k, n - 1) = *l_at(found, c, k, n - 1);
-        *u_at(expected, c, k, n - 1) = *u_at(found, c, k, n - 1);
+void allow_scratch(struct memory *expected, struct memory *found, int buffer, size_t place,
+                   size_t count) {
+    memcpy(buffer_at(expected, buffer, place), buffer_at(found, buffer, place),
+           count * sizeof(double));
+}
+
+void allow_workspaces(struct memory *expected, struct memory *found, size_t count) {
+    for (int b = Y; b <= W; b++) {
+        allow_scratch(expected, found, b, 0, count);
     }
 }
 
-static void equate_nans(double *expected, const double *found) {
+void allow_dropped(struct memory *expected, struct memory *found, size_t capacity, size_t n) {
+    for (size_t k = 0; k < n; k++) {
+        *l_at(expected, capacity, n - 1, k) = *l_at(found, capacity, n - 1, k);
+        *l_at(expected, capacity, k, n - 1) = *l_at(found, capacity, k, n - 1);
+        *u_at(expected, capacity, k, n - 1) = *u_at(found, capacity, k, n - 1);
+    }
+}
+
+static void allow_nan(double *expected, const double *found) {
     if (isnan(*expected) && isnan(*found)) {
         *expected = *found;
     }
 }
 
-static void equate_active_nans(struct memory *expected, struct memory *found, struct call c,
-                               size_t n) {
+void allow_active_nans(struct memory *expected, struct memory *found, size_t capacity,
+                       size_t n) {
     for (size_t i = 0; i < n; i++) {
         for (size_t j = 0; j < n; j++) {
-            equate_nans(l_at(expected, c, i, j), l_at(found, c, i, j));
+            allow_nan(l_at(expected, capacity, i, j), l_at(found, capacity, i, j));
         }
         for (size_t j = i; j < n; j++) {
-            equate_nans(u_at(expected, c, i, j), u_at(found, c, i, j));
+            allow_nan(u_at(expected, capacity, i, j), u_at(found, capacity, i, j));
         }
     }
-}
-
-void check_update(const char *what, struct call c, struct memory *m, const double *l,
-                  const double *u) {
-    struct memory expected = *m;
-    size_t after = (size_t)c.n - (c.mode == 4 ? 1 : 0);
-    check_number(what, call_lumod(c, m), LUMOD_OK);
-    put_factors(&expected, c, after, l, u);
-    equate_active_nans(&expected, m, c, after);
-    allow_scratch(&expected, m, c);
-    check_memory(what, m, &expected);
-}
-
-void check_product(const char *what, struct call c, struct memory *m, const double *product) {
-    struct memory expected = *m;
-    put(&expected, Z, (size_t)c.n, product);
-    check_number(what, call_lprod(c, m), LUMOD_OK);
-    check_memory(what, m, &expected);
-}
-
-void check_solve(const char *what, struct call c, struct memory *m, const double *solution) {
-    struct memory expected = *m;
-    put(&expected, Y, (size_t)c.n, solution);
-    check_number(what, call_usolve(c, m), LUMOD_OK);
-    check_memory(what, m, &expected);
 }

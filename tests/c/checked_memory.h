@@ -1,24 +1,24 @@
 /*
- * Five buffers with marks in and beside them, and the checks of a call on
- * them. After each call every double of every buffer is compared bit for bit,
- * and so are the doubles beside the buffers. Scratch alone is left out.
+ * Buffers with marks in and beside them, and the checks of a call on them.
+ * After each call every double of every buffer is compared bit for bit, and so
+ * are the doubles beside the buffers. Scratch alone is left out.
  */
 #ifndef CHECKED_MEMORY_H
 #define CHECKED_MEMORY_H
 
-#include "lumod.h"
+#include <stddef.h>
+#include <stdint.h>
 
-enum { BESIDE = 4, ROOM = 48, CELLS = BESIDE + ROOM + BESIDE };
-enum { L, U, Y, Z, W, BUFFERS };
+#define COUNT(table) (sizeof(table) / sizeof *(table))
+
+enum { BESIDE = 4, ROOM = 192, CELLS = BESIDE + ROOM + BESIDE };
+/* ROW, COLUMN and RHS are lent to managed calls alone. */
+enum { L, U, Y, Z, W, ROW, COLUMN, RHS, BUFFERS };
 
 /* Buffer b starts at cells[b][BESIDE] and is length[b] long. */
 struct memory {
     double cells[BUFFERS][CELLS];
     size_t length[BUFFERS];
-};
-
-struct call {
-    int32_t mode, maxmod, n, krow, kcol;
 };
 
 /* Groups of checks. A group's line is printed at its end. */
@@ -27,31 +27,32 @@ void end_group(void);
 /* Prints the sum of all groups. The result is the program's exit status. */
 int end_checks(void);
 
-struct call make_call(int32_t mode, int32_t maxmod, int32_t n);
-size_t stride_of(int32_t maxmod);
 double *buffer_at(struct memory *m, int buffer, size_t place);
+double *l_at(struct memory *m, size_t capacity, size_t i, size_t j);
+double *u_at(struct memory *m, size_t capacity, size_t i, size_t j);
 void put(struct memory *m, int buffer, size_t count, const double *values);
+/* Active entries at dimension n, by rows. */
+void put_l(struct memory *m, size_t capacity, size_t n, const double *l);
+void put_u(struct memory *m, size_t capacity, size_t n, const double *u);
+void copy_active(struct memory *to, struct memory *from, size_t capacity, size_t n);
 
-/* A NaN of its own at every place, so that reading one shows. Each buffer has
- * the length that the call needs and `more` doubles. */
-void prepare(struct memory *m, struct call c, size_t more);
-void scramble_workspaces(struct memory *m);
+/* A NaN of its own at every place, so that reading one shows. */
+void mark_all(struct memory *m);
+/* A number of its own at every place, so that writing one shows. */
+void number_all(struct memory *m);
+void set_workspace_lengths(struct memory *m, size_t length);
 
-/* Active entries at dimension n: L by rows, then U by rows. */
-void put_factors(struct memory *m, struct call c, size_t n, const double *l, const double *u);
-
-uint32_t call_lumod(struct call c, struct memory *m);
-uint32_t call_lprod(struct call c, struct memory *m);
-uint32_t call_usolve(struct call c, struct memory *m);
-
-void check_number(const char *what, uint32_t found, uint32_t expected);
+void check_number(const char *what, uint64_t found, uint64_t expected);
 void check_memory(const char *what, const struct memory *found, const struct memory *expected);
 
-/* An accepted LUmod that leaves the factors l and u. A NaN in them stands for
- * every NaN. */
-void check_update(const char *what, struct call c, struct memory *m, const double *l,
-                  const double *u);
-void check_product(const char *what, struct call c, struct memory *m, const double *product);
-void check_solve(const char *what, struct call c, struct memory *m, const double *solution);
+/* What was found becomes what is expected: where scratch may hold anything, and
+ * where both are NaNs. */
+void allow_scratch(struct memory *expected, struct memory *found, int buffer, size_t place,
+                   size_t count);
+void allow_workspaces(struct memory *expected, struct memory *found, size_t count);
+/* The last row and column of dimension n, which a removal drops. */
+void allow_dropped(struct memory *expected, struct memory *found, size_t capacity, size_t n);
+void allow_active_nans(struct memory *expected, struct memory *found, size_t capacity,
+                       size_t n);
 
 #endif

@@ -1,4 +1,4 @@
-//! The five buffers of a call, with doubles beside them that no call may touch.
+//! The buffers of a call, with doubles beside them that no call may touch.
 
 use std::ops::{Index, IndexMut};
 
@@ -6,6 +6,11 @@ use crate::data::garbage;
 use crate::random::Random;
 
 const BESIDE: usize = 3;
+
+/// How many doubles more than needed: often none.
+pub fn surplus(random: &mut Random) -> usize {
+    random.pick(&[0, 0, 0, 1, 2, 5])
+}
 
 /// The places of a buffer start at 0. The doubles before it have negative places.
 #[derive(Clone)]
@@ -25,6 +30,13 @@ impl Buffer {
             start,
             length,
         }
+    }
+
+    /// The same values with other doubles beside them.
+    pub fn holding(values: &[f64], random: &mut Random) -> Self {
+        let mut buffer = Self::new(values.len(), random);
+        buffer.slice_mut().copy_from_slice(values);
+        buffer
     }
 
     pub fn len(&self) -> usize {
@@ -67,6 +79,7 @@ impl Buffer {
     }
 }
 
+/// The factors, the workspaces, and what managed calls are lent besides.
 #[derive(Clone, Copy, PartialEq)]
 pub enum Name {
     L,
@@ -74,28 +87,35 @@ pub enum Name {
     Y,
     Z,
     W,
+    Row,
+    Column,
+    RightHandSide,
 }
 
-pub const NAMES: [Name; 5] = [Name::L, Name::U, Name::Y, Name::Z, Name::W];
-pub const VECTORS: [Name; 3] = [Name::Y, Name::Z, Name::W];
+use Name::*;
+
+pub const NAMES: [Name; 8] = [L, U, Y, Z, W, Row, Column, RightHandSide];
+pub const VECTORS: [Name; 3] = [Y, Z, W];
 
 impl Name {
     pub fn text(self) -> &'static str {
-        ["l", "u", "y", "z", "w"][self as usize]
+        ["l", "u", "y", "z", "w", "row", "column", "rhs"][self as usize]
     }
 }
 
 #[derive(Clone)]
-pub struct Buffers([Buffer; 5]);
+pub struct Buffers([Buffer; NAMES.len()]);
 
 impl Buffers {
-    /// Garbage in buffers of the given lengths, in the order l, u, y, z, w.
+    /// Garbage in buffers of the given lengths, in the order l, u, y, z, w. The
+    /// others are empty.
     pub fn new(lengths: [usize; 5], random: &mut Random) -> Self {
-        Self(lengths.map(|length| Buffer::new(length, random)))
+        let length = |name| lengths.get(name as usize).map_or(0, |&length| length);
+        Self(NAMES.map(|name| Buffer::new(length(name), random)))
     }
 
-    /// All five at once, as a call needs them.
-    pub fn slices_mut(&mut self) -> [&mut [f64]; 5] {
+    /// All of them at once, as a call needs them.
+    pub fn slices_mut(&mut self) -> [&mut [f64]; NAMES.len()] {
         self.0.each_mut().map(Buffer::slice_mut)
     }
 }

@@ -3,10 +3,21 @@
 
 use crate::random::Random;
 
-/// E of the zero-based interface.
-pub const E: f64 = 2.22e-16;
-/// T of the zero-based interface.
-pub const T: f64 = E * 0.0001;
+/// The tolerances E and T of an interface.
+#[derive(Clone, Copy)]
+pub struct Tolerances {
+    pub e: f64,
+    pub t: f64,
+}
+
+pub const ZERO_BASED: Tolerances = Tolerances {
+    e: 2.22e-16,
+    t: 2.22e-16 * 0.0001,
+};
+pub const MANAGED: Tolerances = Tolerances {
+    e: f64::EPSILON,
+    t: f64::EPSILON * 0.0001,
+};
 
 #[derive(Clone, Copy)]
 pub enum Kind {
@@ -95,6 +106,15 @@ impl Profile {
         }
     }
 
+    /// Itself, or now and then another.
+    pub fn or_other(self, random: &mut Random) -> Self {
+        if random.chance(1, 16) {
+            Self::choose(random)
+        } else {
+            self
+        }
+    }
+
     pub fn value(self, random: &mut Random) -> f64 {
         let kind = if random.chance(self.rate, 64) {
             self.rare
@@ -126,11 +146,12 @@ fn power_of_two(random: &mut Random, largest: i64) -> f64 {
     2f64.powi(random.between(-largest, largest) as i32)
 }
 
-/// Beside E, T, or what they would be with 2^-52, also times a small number.
+/// Beside E, T or the square of E, of either interface, also times a small number.
 fn tolerance(random: &mut Random) -> f64 {
-    const BASES: [f64; 7] = [E, E, T, T, f64::EPSILON, f64::EPSILON * 0.0001, E * E];
     const SCALES: [f64; 7] = [1.0, 1.0, 1.0, 0.5, 2.0, 3.0, 4.0];
-    beside(random.pick(&BASES) * random.pick(&SCALES), random)
+    let Tolerances { e, t } = random.pick(&[ZERO_BASED, MANAGED]);
+    let base = random.pick(&[e, e, e, t, t, t, e * e]);
+    beside(base * random.pick(&SCALES), random)
 }
 
 /// `magnitude`, or a double up to two places from it.
@@ -174,9 +195,9 @@ fn nan(random: &mut Random) -> f64 {
     f64::from_bits(0x7ff0_0000_0000_0001 | (random.bits() >> 12))
 }
 
-/// What unused storage and workspaces hold: mostly NaNs, each with a payload
-/// of its own, so that a read shows and so does a write.
+/// What unused storage and workspaces hold: often NaNs, each with a payload of
+/// its own, so that a read shows and so does a write.
 pub fn garbage(random: &mut Random) -> f64 {
-    let kind = random.pick(&[Nan, Nan, Nan, Uniform, AnyBits]);
+    let kind = random.pick(&[Nan, Nan, Nan, Nan, Uniform, AnyBits, Zero, Infinity]);
     value(kind, random)
 }

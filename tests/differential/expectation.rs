@@ -1,7 +1,9 @@
-//! What a call must return and leave in every buffer.
+//! What a call must leave in every buffer.
 
-use crate::arguments::{l_place, u_place, Arguments, Function};
-use crate::buffers::{Buffers, Name, NAMES, VECTORS};
+use std::ops::Range;
+
+use crate::buffers::{Buffers, Name, NAMES};
+use crate::places::active;
 
 #[derive(Clone, Copy, PartialEq)]
 pub enum Place {
@@ -14,15 +16,13 @@ pub enum Place {
 }
 
 pub struct Expectation {
-    pub number: u32,
     pub before: Buffers,
-    /// The buffers as the Rust left them.
+    /// The Rust's results, each at its place.
     pub rust: Buffers,
-    places: [Vec<Place>; 5],
+    places: [Vec<Place>; NAMES.len()],
 }
 
 pub struct Difference {
-    pub side: &'static str,
     pub name: Name,
     pub place: isize,
     pub found: u64,
@@ -30,18 +30,14 @@ pub struct Difference {
 }
 
 impl Expectation {
-    pub fn new(arguments: &Arguments, number: u32, before: Buffers, rust: Buffers) -> Self {
+    /// Everything is kept.
+    pub fn new(before: Buffers, rust: Buffers) -> Self {
         let places = NAMES.map(|name| vec![Place::Kept; before[name].len()]);
-        let mut expectation = Self {
-            number,
+        Self {
             before,
             rust,
             places,
-        };
-        if number == 0 {
-            expectation.mark(arguments);
         }
-        expectation
     }
 
     /// Places beside a buffer are kept.
@@ -52,68 +48,52 @@ impl Expectation {
             .map_or(Place::Kept, |&place| place)
     }
 
-    fn mark(&mut self, arguments: &Arguments) {
-        let n = arguments.n as usize;
-        match arguments.function {
-            Function::LUmod => {
-                self.mark_factors(arguments);
-                for name in VECTORS {
-                    self.places[name as usize][..n].fill(Place::Scratch);
-                }
-            }
-            Function::Lprod => self.places[Name::Z as usize][..n].fill(Place::Result),
-            Function::Usolve => self.places[Name::Y as usize][..n].fill(Place::Result),
+    pub fn mark(&mut self, name: Name, range: Range<usize>, place: Place) {
+        self.places[name as usize][range].fill(place);
+    }
+
+    /// Active entries at dimension `after` are results. What was active at a larger
+    /// dimension before is scratch: the row and column that remove drops.
+    pub fn mark_factors(&mut self, stride: usize, before: usize, after: usize) {
+        for (name, place) in active(stride, before) {
+            self.places[name as usize][place] = Place::Scratch;
+        }
+        for (name, place) in active(stride, after) {
+            self.places[name as usize][place] = Place::Result;
         }
     }
 
-    /// Active entries afterwards; the row and column that remove drops are scratch.
-    fn mark_factors(&mut self, arguments: &Arguments) {
-        let (n, stride) = (arguments.n as usize, arguments.stride());
-        let after = arguments.dimension_after();
-        for i in 0..n {
-            for j in 0..n {
-                let place = if i < after && j < after {
-                    Place::Result
-                } else {
-                    Place::Scratch
-                };
-                self.places[Name::L as usize][l_place(stride, i, j)] = place;
-                if i <= j {
-                    self.places[Name::U as usize][u_place(stride, i, j)] = place;
-                }
-            }
-        }
-    }
-
-    /// The first place at which a side is not as expected.
-    pub fn compare(&self, archive: &Buffers) -> Option<Difference> {
-        NAMES.into_iter().find_map(|name| {
-            let before = &self.before[name];
-            (before.first_place()..before.end_place())
-                .find_map(|place| self.compare_place(archive, name, place))
+    pub fn has_result_not_finite(&self) -> bool {
+        NAMES.into_iter().any(|name| {
+            let values = self.rust[name].slice().iter();
+            let mut results = values.zip(&self.places[name as usize]);
+            results.any(|(value, &place)| place == Place::Result && !value.is_finite())
         })
     }
 
-    fn compare_place(&self, archive: &Buffers, name: Name, place: isize) -> Option<Difference> {
-        let [before, rust, archive] =
-            [&self.before, &self.rust, archive].map(|buffers| buffers[name].at(place));
-        let differ = |side, found: f64, expected: f64| {
-            let (found, expected) = (found.to_bits(), expected.to_bits());
-            (found != expected).then_some(Difference {
-                side,
-                name,
-                place,
-                found,
-                expected,
-            })
+    /// The first place at which what a call left is not as expected.
+    pub fn compare(&self, left: &Buffers) -> Option<Difference> {
+        NAMES.into_iter().find_map(|name| {
+            let before = &self.before[name];
+            (before.first_place()..before.end_place())
+                .find_map(|place| self.compare_place(left, name, place))
+        })
+    }
+
+    fn compare_place(&self, left: &Buffers, name: Name, place: isize) -> Option<Difference> {
+        let found = left[name].at(place);
+        let (expected, nans_alike) = match self.place(name, place) {
+            Place::Scratch => return None,
+            Place::Result => (self.rust[name].at(place), true),
+            Place::Kept => (self.before[name].at(place), false),
         };
-        match self.place(name, place) {
-            Place::Scratch => None,
-            Place::Result if archive.is_nan() && rust.is_nan() => None,
-            Place::Result => differ("the archive", archive, rust),
-            Place::Kept => {
-                differ("the archive", archive, before).or_else(|| differ("the Rust", rust, before))
-            }
-        }
+        let alike = nans_alike && found.is_nan() && expected.is_nan();
+        let (found, expected) = (found.to_bits(), expected.to_bits());
+        (found != expected && !alike).then_some(Difference {
+            name,
+            place,
+            found,
+            expected,
+        })
     }
 }

@@ -1,8 +1,8 @@
 //! Factors and vectors that a call is given.
 
-use crate::arguments::{l_place, u_place};
 use crate::buffers::{Buffers, Name};
 use crate::data::{garbage, Profile};
+use crate::places::{active, diagonal, l_place, u_place};
 use crate::random::Random;
 
 #[derive(Clone, Copy)]
@@ -69,11 +69,28 @@ pub fn fill_vector(
     }
 }
 
+/// A number for each diagonal entry of U that a solve would be refused for.
+pub fn mend_diagonal(u: &mut [f64], stride: usize, n: usize, random: &mut Random) {
+    for place in diagonal(stride, n) {
+        if u[place] == 0.0 || !u[place].is_finite() {
+            let magnitude = 1.0 + random.unit();
+            u[place] = random.sign(magnitude);
+        }
+    }
+}
+
+/// Gives `to` the active entries of `from`. Each comes with its stride.
+pub fn copy_active(n: usize, from: (&Buffers, usize), to: (&mut Buffers, usize)) {
+    for ((name, source), (_, place)) in active(from.1, n).zip(active(to.1, n)) {
+        to.0[name].slice_mut()[place] = from.0[name].slice()[source];
+    }
+}
+
 /// Garbage in all storage that is not active at dimension n.
 pub fn scramble_unused(buffers: &mut Buffers, stride: usize, n: usize, random: &mut Random) {
     let l = buffers[Name::L].slice_mut();
     for (place, value) in l.iter_mut().enumerate() {
-        if place / stride >= n || place % stride >= n {
+        if n == 0 || place / stride >= n || place % stride >= n {
             *value = garbage(random);
         }
     }

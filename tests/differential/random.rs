@@ -36,6 +36,17 @@ impl Random {
         choices[self.below(choices.len())]
     }
 
+    /// An index below n, the first and the last somewhat more often; 0 if there is none.
+    pub fn index(&mut self, n: usize) -> usize {
+        let any = self.below(n);
+        self.pick(&[any, any, any, 0, n.saturating_sub(1)])
+    }
+
+    /// From 0 to `largest`, the larger ones more often.
+    pub fn dimension(&mut self, largest: usize) -> usize {
+        self.below(largest + 1).max(self.below(largest + 1))
+    }
+
     /// Uniform in [0, 1).
     pub fn unit(&mut self) -> f64 {
         (self.bits() >> 11) as f64 / (1u64 << 53) as f64

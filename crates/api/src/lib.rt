@@ -1,8 +1,32 @@
 // The managed interface: a dimension and a capacity by value, and storage lent to each call.
 ghost use mathlib.Core.Path.{_≡_};
+ghost use mathlib.Core.Bool.{cond};
+ghost use mathlib.Core.List.{[]};
+ghost use mathlib.Core.Option.{none, some};
+ghost use lib.Dec.{eqb};
 ghost use lib.ListN.{length};
+ghost use lib.Ieee.{binary64};
+ghost use Rattle.numbers.specs.NumberForm.{ieee};
+ghost use Rattle.machine.specs.Solves.{diagonals};
+ghost use Rattle.machine.specs.Calls as calls;
+ghost use Rattle.storage.specs.Views.{viewU};
+ghost use Rattle.storage.specs.Lengths as lengths;
+ghost use Rattle.managed.specs.Instance.{instance, lentToSolve};
 ghost use Rattle.managed.specs.Refusals.{storageTests};
-ghost use Rattle.api.specs.Adoption.{testOf, adoptionOf, adoptedUnder};
+ghost use Rattle.api.specs.Answers.{adoptionOf, adoptedUnder, readinessOf, readyUnder, answerOf, movedRowOf, movedColumnOf, removeAnswerOf};
+ghost use Rattle.api.specs.Demands.{ManagedOutcome};
+use refusals::Refusal;
+use refusals::Test;
+use refusals::test_push;
+use refusals::test_remove;
+use refusals::test_replace_column;
+use refusals::test_replace_row;
+use refusals::test_solve;
+use refusals::test_storage;
+use solves::diagonal::Diagonal;
+use solves::diagonal::test_diagonal;
+use solves::in_place::solve;
+use solves::in_place::solve_transposed;
 use storage::RequiredLengths;
 use storage::storage_lengths;
 
@@ -12,43 +36,105 @@ pub struct LuMod {
     pub capacity: usize,
 }
 
-// The tests that every managed call makes of the storage it is lent.
-pub enum StorageTest {
-    Passed,
-    InvalidDimension,
-    SizeOverflow,
-    InsufficientStorage,
+// The index of a row of the matrix.
+pub struct RowIndex(pub usize);
+
+// The index of a column of the matrix.
+pub struct ColumnIndex(pub usize);
+
+// The row that a remove moved to the place of the removed one, by its old index.
+pub enum MovedRow {
+    Moved(RowIndex),
+    Nothing,
+}
+
+// The same of columns.
+pub enum MovedColumn {
+    Moved(ColumnIndex),
+    Nothing,
+}
+
+pub struct Removal {
+    pub moved_row: MovedRow,
+    pub moved_column: MovedColumn,
+}
+
+// What a call answers, remove apart.
+pub enum Answer {
+    Done,
+    Refused(Refusal),
+}
+
+// What remove answers.
+pub enum RemoveAnswer {
+    Removed(Removal),
+    Refused(Refusal),
+}
+
+// What a call hands back: the state for the next call, and its answer.
+pub struct CallResult {
+    pub state: LuMod,
+    pub answer: Answer,
+}
+
+pub struct RemoveResult {
+    pub state: LuMod,
+    pub answer: RemoveAnswer,
+}
+
+// The last row moves, where it is not itself the one that is removed.
+fn moved_row(row: usize, last: usize) -> MovedRow
+    ensures { λ r. ⌜ movedRowOf r ≡ cond (eqb row last) none (some last) ⌝ }
+{
+    if row == last {
+        return MovedRow::Nothing;
+    }
+    MovedRow::Moved(RowIndex(last))
+}
+
+// The same of columns.
+fn moved_column(column: usize, last: usize) -> MovedColumn
+    ensures { λ r. ⌜ movedColumnOf r ≡ cond (eqb column last) none (some last) ⌝ }
+{
+    if column == last {
+        return MovedColumn::Nothing;
+    }
+    MovedColumn::Moved(ColumnIndex(last))
+}
+
+// What moved when a row and a column were removed.
+fn what_moved(row: usize, column: usize, last: usize) -> Removal
+    ensures { λ r. ⌜ (movedRowOf (r .«moved_row») ≡ cond (eqb row last) none (some last)) × (movedColumnOf (r .«moved_column») ≡ cond (eqb column last) none (some last)) ⌝ }
+{
+    let moved_row = moved_row(row, last);
+    let moved_column = moved_column(column, last);
+    Removal {
+        moved_row,
+        moved_column,
+    }
 }
 
 // What adopting storage answers.
 pub enum Adoption {
     Adopted(LuMod),
-    InvalidDimension,
-    SizeOverflow,
-    InsufficientStorage,
+    Refused(Refusal),
 }
 
-// Tests 1, 2 and 3 of a dimension, a capacity and the lengths of L and U.
-fn test_storage(n: usize, capacity: usize, l: usize, u: usize) -> StorageTest
-    ensures { λ r. ⌜ testOf r ≡ storageTests n capacity l u ⌝ }
-{
-    if n > capacity {
-        return StorageTest::InvalidDimension;
-    }
-    let required = storage_lengths(capacity);
-    let RequiredLengths::Lengths(lengths) = required else {
-        return StorageTest::SizeOverflow;
-    };
-    if l < lengths.l {
-        return StorageTest::InsufficientStorage;
-    }
-    if u < lengths.u {
-        return StorageTest::InsufficientStorage;
-    }
-    StorageTest::Passed
+// Whether a solve would divide by sound diagonals alone.
+pub enum Readiness {
+    Ready,
+    NotReady,
+    Refused(Refusal),
 }
 
 impl LuMod {
+    // The lengths of L and U that a capacity needs. SizeOverflow where capacity + 1 or L's length exceeds usize.
+    pub fn storage_lengths(capacity: usize) -> RequiredLengths
+        ensures { λ r. ⌜ lengths.answerOf r ≡ lengths.requiredLengths capacity ⌝ }
+    {
+        storage_lengths(capacity)
+    }
+
     // Adopts storage at a dimension and a capacity; nothing of it is read or written. InvalidDimension where the dimension exceeds the capacity,
     // SizeOverflow where the lengths for it exceed usize, InsufficientStorage where L or U is shorter.
     pub fn from_storage(dimension: usize, capacity: usize, l: &[f64], u: &[f64]) -> Adoption
@@ -56,13 +142,206 @@ impl LuMod {
     {
         let test = test_storage(dimension, capacity, l.len(), u.len());
         match test {
-            StorageTest::Passed => Adoption::Adopted(LuMod {
+            Test::Passed => Adoption::Adopted(LuMod {
                 n: dimension,
                 capacity,
             }),
-            StorageTest::InvalidDimension => Adoption::InvalidDimension,
-            StorageTest::SizeOverflow => Adoption::SizeOverflow,
-            StorageTest::InsufficientStorage => Adoption::InsufficientStorage,
+            Test::Refused(refusal) => Adoption::Refused(refusal),
+        }
+    }
+
+    pub fn dimension(self) -> usize
+        ensures { λ r. ⌜ r ≡ self .n ⌝ }
+    {
+        self.n
+    }
+
+    pub fn capacity(self) -> usize
+        ensures { λ r. ⌜ r ≡ self .capacity ⌝ }
+    {
+        self.capacity
+    }
+
+    // Whether no active diagonal of U is zero, infinite or NaN. Nothing is written.
+    pub fn ready(self, l: &[f64], u: &[f64]) -> Readiness
+        ensures { λ r. ⌜ readinessOf r ≡ readyUnder (storageTests (self .n) (self .capacity) (length (now (l .entry))) (length (now (u .entry)))) (diagonals (ieee binary64) (viewU (ieee binary64) (self .capacity) (now (u .entry))) (self .n)) ⌝ }
+    {
+        let n = self.n;
+        let capacity = self.capacity;
+        let test = test_storage(n, capacity, l.len(), u.len());
+        if let Test::Refused(refusal) = test {
+            return Readiness::Refused(refusal);
+        }
+        let found = test_diagonal(n, capacity, u);
+        match found {
+            Diagonal::Sound => Readiness::Ready,
+            Diagonal::Zero(_) => Readiness::NotReady,
+            Diagonal::NonFinite(_) => Readiness::NotReady,
+        }
+    }
+
+    // Appends a row and a column to the matrix; `diagonal` is the entry where they meet. row and column have the length of the dimension, the workspaces
+    // one more. The dimension grows by one.
+    pub fn push(
+        self,
+        l: &mut [f64],
+        u: &mut [f64],
+        y: &mut [f64],
+        z: &mut [f64],
+        w: &mut [f64],
+        row: &[f64],
+        column: &[f64],
+        diagonal: f64,
+    ) -> CallResult
+        ensures { λ r. ⌜ ManagedOutcome (calls.push (now (row .entry)) (now (column .entry)) diagonal) (instance (self .n) (self .capacity) (now (l .entry)) (now (u .entry)) (now (y .entry)) (now (z .entry)) (now (w .entry)))
+            (instance (r .state .n) (r .state .capacity) (now (l .exit)) (now (u .exit)) (now (y .exit)) (now (z .exit)) (now (w .exit))) (answerOf (r .answer)) [] ⌝ }
+    {
+        let n = self.n;
+        let capacity = self.capacity;
+        let test = test_push(n, capacity, l, u, y, z, w, row, column);
+        if let Test::Refused(refusal) = test {
+            return CallResult {
+                state: self,
+                answer: Answer::Refused(refusal),
+            };
+        }
+        updates::push(n, capacity, l, u, y, w, row, column, diagonal);
+        CallResult {
+            state: LuMod { n: n + 1, capacity },
+            answer: Answer::Done,
+        }
+    }
+
+    // Replaces a row of the matrix.
+    pub fn replace_row(
+        self,
+        l: &mut [f64],
+        u: &mut [f64],
+        y: &mut [f64],
+        z: &mut [f64],
+        w: &mut [f64],
+        row: RowIndex,
+        values: &[f64],
+    ) -> CallResult
+        ensures { λ r. ⌜ ManagedOutcome (calls.replaceRow (row .0) (now (values .entry))) (instance (self .n) (self .capacity) (now (l .entry)) (now (u .entry)) (now (y .entry)) (now (z .entry)) (now (w .entry)))
+            (instance (r .state .n) (r .state .capacity) (now (l .exit)) (now (u .exit)) (now (y .exit)) (now (z .exit)) (now (w .exit))) (answerOf (r .answer)) [] ⌝ }
+    {
+        let n = self.n;
+        let capacity = self.capacity;
+        let test = test_replace_row(n, capacity, l, u, y, z, w, row.0, values);
+        if let Test::Refused(refusal) = test {
+            return CallResult {
+                state: self,
+                answer: Answer::Refused(refusal),
+            };
+        }
+        updates::replace_row(row.0, n, capacity, l, u, y, z, w, values);
+        CallResult {
+            state: self,
+            answer: Answer::Done,
+        }
+    }
+
+    // Replaces a column of the matrix.
+    pub fn replace_column(
+        self,
+        l: &mut [f64],
+        u: &mut [f64],
+        y: &mut [f64],
+        z: &mut [f64],
+        w: &mut [f64],
+        column: ColumnIndex,
+        values: &[f64],
+    ) -> CallResult
+        ensures { λ r. ⌜ ManagedOutcome (calls.replaceColumn (column .0) (now (values .entry))) (instance (self .n) (self .capacity) (now (l .entry)) (now (u .entry)) (now (y .entry)) (now (z .entry)) (now (w .entry)))
+            (instance (r .state .n) (r .state .capacity) (now (l .exit)) (now (u .exit)) (now (y .exit)) (now (z .exit)) (now (w .exit))) (answerOf (r .answer)) [] ⌝ }
+    {
+        let n = self.n;
+        let capacity = self.capacity;
+        let test = test_replace_column(n, capacity, l, u, y, z, w, column.0, values);
+        if let Test::Refused(refusal) = test {
+            return CallResult {
+                state: self,
+                answer: Answer::Refused(refusal),
+            };
+        }
+        updates::replace_column(column.0, n, capacity, l, u, y, w, values);
+        CallResult {
+            state: self,
+            answer: Answer::Done,
+        }
+    }
+
+    // Removes a row and a column of the matrix; the last of each moves to the place of the removed one. The dimension falls by one.
+    pub fn remove(
+        self,
+        l: &mut [f64],
+        u: &mut [f64],
+        y: &mut [f64],
+        z: &mut [f64],
+        w: &mut [f64],
+        row: RowIndex,
+        column: ColumnIndex,
+    ) -> RemoveResult
+        ensures { λ r. ⌜ ManagedOutcome (calls.remove (row .0) (column .0)) (instance (self .n) (self .capacity) (now (l .entry)) (now (u .entry)) (now (y .entry)) (now (z .entry)) (now (w .entry)))
+            (instance (r .state .n) (r .state .capacity) (now (l .exit)) (now (u .exit)) (now (y .exit)) (now (z .exit)) (now (w .exit))) (removeAnswerOf (r .answer)) [] ⌝ }
+    {
+        let n = self.n;
+        let capacity = self.capacity;
+        let test = test_remove(n, capacity, l, u, y, z, w, row.0, column.0);
+        if let Test::Refused(refusal) = test {
+            return RemoveResult {
+                state: self,
+                answer: RemoveAnswer::Refused(refusal),
+            };
+        }
+        updates::remove(row.0, column.0, n, capacity, l, u, y, z, w);
+        let last = n - 1;
+        RemoveResult {
+            state: LuMod { n: last, capacity },
+            answer: RemoveAnswer::Removed(what_moved(row.0, column.0, last)),
+        }
+    }
+
+    // Solves with the matrix in place; the end of L is work. Refused where a diagonal of U is zero, infinite or NaN.
+    pub fn solve_in_place(self, l: &mut [f64], u: &[f64], rhs: &mut [f64]) -> CallResult
+        ensures { λ r. ⌜ ManagedOutcome (calls.solve (now (rhs .entry))) (lentToSolve (self .n) (self .capacity) (now (l .entry)) (now (u .entry)))
+            (lentToSolve (r .state .n) (r .state .capacity) (now (l .exit)) (now (u .entry))) (answerOf (r .answer)) (now (rhs .exit)) ⌝ }
+    {
+        let n = self.n;
+        let capacity = self.capacity;
+        let test = test_solve(n, capacity, l, u, rhs);
+        if let Test::Refused(refusal) = test {
+            return CallResult {
+                state: self,
+                answer: Answer::Refused(refusal),
+            };
+        }
+        solve(n, capacity, l, u, rhs);
+        CallResult {
+            state: self,
+            answer: Answer::Done,
+        }
+    }
+
+    // Solves with the matrix transposed in place; the end of L is work. Refused where a diagonal of U is zero, infinite or NaN.
+    pub fn solve_transpose_in_place(self, l: &mut [f64], u: &[f64], rhs: &mut [f64]) -> CallResult
+        ensures { λ r. ⌜ ManagedOutcome (calls.solveTransposed (now (rhs .entry))) (lentToSolve (self .n) (self .capacity) (now (l .entry)) (now (u .entry)))
+            (lentToSolve (r .state .n) (r .state .capacity) (now (l .exit)) (now (u .entry))) (answerOf (r .answer)) (now (rhs .exit)) ⌝ }
+    {
+        let n = self.n;
+        let capacity = self.capacity;
+        let test = test_solve(n, capacity, l, u, rhs);
+        if let Test::Refused(refusal) = test {
+            return CallResult {
+                state: self,
+                answer: Answer::Refused(refusal),
+            };
+        }
+        solve_transposed(n, capacity, l, u, rhs);
+        CallResult {
+            state: self,
+            answer: Answer::Done,
         }
     }
 }

@@ -74,10 +74,10 @@ fn main() {
     pair(3.0, -3.0);
     pair(0.0 / 0.0, 0.0);
     factors::p();
-    factors::solved(1, 8.0, 5.0);
-    factors::solved(2, 6.0, 7.0);
-    factors::replaced(2, 1.0, 8.0);
-    factors::replaced(3, 1.0, 1.0);
+    factors::solved(false, 8.0, 5.0);
+    factors::solved(true, 6.0, 7.0);
+    factors::replaced(true, 1.0, 8.0);
+    factors::replaced(false, 1.0, 1.0);
     factors::removed();
     factors::refused();
 }

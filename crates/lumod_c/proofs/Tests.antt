@@ -1,8 +1,8 @@
 -- From tests to outcomes: what a refused call's outcome is, and what is known where nothing was refused.
-use mathlib.Core.Path.{_≡_, refl, sym, ap, _∙_, subst}
+use mathlib.Core.Path.{_≡_, refl, sym, subst}
 use mathlib.Core.Bool.{Bool, true, false, _||_, _&&_}
 use mathlib.Core.List.{List}
-use mathlib.Core.Option.{Option, none, some}
+use mathlib.Core.Option.{Option}
 use Prim.Native.Nat.{ℕ, _*_, _≤_, _<_}
 use native.Mathlib.Decide.{ℕ-discrete}
 use native.Mathlib.Omega.{arith}
@@ -10,24 +10,17 @@ use lib.Dec.{T as So, eqb}
 use lib.IntN.{ℤ, pos, negsuc}
 use borrow.Author.Tests.{leb-false, ltb-false, eq-eqb, eqb-false}
 use Rattle.numbers.specs.NumberForm.{NumberForm}
-use Rattle.machine.specs.Calls.{Answer, _orElse_, refuseIf}
+use Rattle.machine.specs.Calls.{Answer, _orElse_, refusalNumber, refuseIf}
+use Rattle.machine.proofs.Refusals.{none-is-some}
 use Rattle.storage.specs.Places.{uLength}
 use Rattle.zero_based.specs.Numbers.{sizeOf, outside}
-use Rattle.zero_based.specs.Refusals.{numberOf, indexOutside, passedOver, updateLacksRoom, productLacksRoom, solveLacksRoom}
+use Rattle.zero_based.specs.Refusals.{indexOutside, passedOver, updateLacksRoom, productLacksRoom, solveLacksRoom}
 use Rattle.lumod_c.specs.Outcome.{Outcome, Untouched}
 
 -- ---- the chain of two refusals
 
 abbrev chain : Bool → Bool → Option Answer
 chain a b = refuseIf a 11 orElse refuseIf b 12
-
-isNone : {A : Type 0} → Option A → Bool
-isNone none = true
-isNone (some a) = false
-
-none-is-some : {A : Type 0} {x : Option A} {r : A} → x ≡ none → x ≡ some r → ⊥
-unfolding isNone
-none-is-some e f = subst So (ap isNone (sym e ∙ f)) tt
 
 -- ---- nothing refused
 
@@ -105,21 +98,21 @@ solve-room n c u y e =
 module _ (a b : Bool) {Untouched Performed : Type 0} where
   pub outcome-11 : a ≡ true → Untouched → Outcome (chain a b) Untouched Performed 11
   outcome-11 e h = record {
-    number = λ t. numberOf (chain (sym e t) b);
+    number = λ t. refusalNumber (chain (sym e t) b);
     refused = λ r _. h;
     accepted = λ f. absurd (none-is-some f (λ t. chain (e t) b));
   }
 
   pub outcome-12 : a ≡ false → b ≡ true → Untouched → Outcome (chain a b) Untouched Performed 12
   outcome-12 e f h = record {
-    number = λ t. numberOf (chain (sym e t) (sym f t));
+    number = λ t. refusalNumber (chain (sym e t) (sym f t));
     refused = λ r _. h;
     accepted = λ g. absurd (none-is-some g (λ t. chain (e t) (f t)));
   }
 
   pub outcome-0 : a ≡ false → b ≡ false → Performed → Outcome (chain a b) Untouched Performed 0
   outcome-0 e f h = record {
-    number = λ t. numberOf (chain (sym e t) (sym f t));
+    number = λ t. refusalNumber (chain (sym e t) (sym f t));
     refused = λ r g. absurd (none-is-some (λ t. chain (e t) (f t)) g);
     accepted = λ _. h;
   }

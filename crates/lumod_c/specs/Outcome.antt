@@ -11,14 +11,14 @@ use Rattle.numbers.specs.NumberForm.{NumberForm}
 use Rattle.machine.specs.Tables.{Vector, State, tabulate}
 use Rattle.machine.specs.Products.{entry, product, productTransposed}
 use Rattle.machine.specs.Solves.{backSubstitution, forwardSubstitution}
-use Rattle.machine.specs.Calls.{Call, push, replaceRow, replaceColumn, remove, Answer}
+use Rattle.machine.specs.Calls.{Call, push, replaceRow, replaceColumn, remove, Answer, refusalNumber}
 use Rattle.machine.specs.Machine.{step}
 use Rattle.machine.specs.Agreement.{Agree}
 use Rattle.storage.specs.Places.{LPlace, UPlace}
 use Rattle.storage.specs.Views.{viewL, viewU, Kept}
 use Rattle.ranges.specs.Written.{Written}
 use Rattle.zero_based.specs.Numbers.{sizeOf, strideOf}
-use Rattle.zero_based.specs.Refusals.{numberOf, updateRefusal, productRefusal, solveRefusal}
+use Rattle.zero_based.specs.Refusals.{updateRefusal, productRefusal, solveRefusal}
 
 -- n is the new dimension of a push; a remove leaves one less
 abbrev pub dimensionBefore : ℕ → ℕ → ℕ
@@ -29,7 +29,7 @@ dimensionAfter mode n = cond (eqb mode 4) (n - 1) n
 
 -- A call that a test refuses returns the refusal's number and leaves all untouched; any other returns 0 and is performed.
 pub record Outcome (refusal : Option Answer) (Untouched Performed : Type 0) (answer : ℕ) : Type 0 where
-  pub number : answer ≡ numberOf refusal
+  pub number : answer ≡ refusalNumber refusal
   pub refused : (r : Answer) → refusal ≡ some r → Untouched
   pub accepted : refusal ≡ none → Performed
 

@@ -16,6 +16,7 @@ use zero_based::solve_lacks_room;
 use zero_based::stride;
 use zero_based::update_lacks_room;
 
+pub mod managed_calls;
 mod update;
 
 // Updates the factors. Mode 1 appends a row and a column (n is the new dimension; row and diagonal in y, column in z), 2 replaces column kcol by z, 3 replaces

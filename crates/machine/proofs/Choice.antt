@@ -1,7 +1,7 @@
 -- Laws of tests and choices: a branch is compared only where it is taken. And agreement is an equivalence.
 use mathlib.Core.Path.{_≡_, refl, sym, _∙_, subst}
 use mathlib.Core.Bool.{Bool, true, false, not, _&&_, cond}
-use mathlib.Core.List.{_∷_}
+use mathlib.Core.List.{List, [], _∷_}
 use Prim.Native.Nat.{ℕ, zero, suc, _≤_, _<_}
 use native.Mathlib.Omega.{arith}
 use lib.ListN.{length, getD}
@@ -58,6 +58,11 @@ module _ {A : Type 0} where
   tabulate-at (suc k) f d zero h = refl
   tabulate-at (suc k) f d (suc i) h = tabulate-at k (λ a. f (suc a)) d i (omega arith)
 
+  -- a list is told by its entries
+  pub listed : (xs : List A) (f : Vector A) (d : A) → ((i : ℕ) → i < length xs → getD xs i d ≡ f i) → xs ≡ tabulate (length xs) f
+  listed [] f d h = refl
+  listed (x ∷ xs) f d h = λ i. h zero (omega arith) i ∷ listed xs (λ a. f (suc a)) d (λ a l. h (suc a) (omega arith)) i
+
   -- ---- agreement of works
 
   pub within-choose : {m lo hi k : ℕ} (b : Bool) {S S′ R R′ : Work A} → (So b → AgreeWithin m lo hi k S S′) → (So (not b) → AgreeWithin m lo hi k R R′)
@@ -93,6 +98,9 @@ module _ {A : Type 0} where
   within-state p l h = record { n = refl; L = λ i j hi hj. h .L i j (omega arith) (omega arith); U = λ i j hij hj. h .U i j hij (omega arith) }
 
   -- ---- agreement of states and results
+
+  pub agree-refl : (S : State A) → Agree S S
+  agree-refl S = record { n = refl; L = λ i j _ _. refl; U = λ i j _ _. refl }
 
   pub agree-sym : {S R : State A} → Agree S R → Agree R S
   agree-sym h = record {

@@ -22,7 +22,7 @@ module _ (N : NumberForm) where
     diagonals-same (suc k) l = λ t. diagonals-same k (omega arith) t orElse badDiagonal N (hU k k (omega arith) (omega arith) t) k
 
     module _ (b c : Vector Value) (e : (j : ℕ) → j < n → b j ≡ c j) where
-      back-substitution-same : (k : ℕ) → k ≤ n → (j : ℕ) → j < n → backSubstitution N n U b k j ≡ backSubstitution N n U′ c k j
+      pub back-substitution-same : (k : ℕ) → k ≤ n → (j : ℕ) → j < n → backSubstitution N n U b k j ≡ backSubstitution N n U′ c k j
       unfolding backSubstitution
       back-substitution-same zero l j hj = e j hj
       back-substitution-same (suc k) l j hj =
@@ -32,7 +32,7 @@ module _ (N : NumberForm) where
           (λ i hi t. mul (hU row (suc row + i) (omega arith) (omega arith) t) (ih (suc row + i) (omega arith) t)) in
           λ t. cond (eqb j row) (substituted N (ih row (omega arith) t) (s t) (hU row row (omega arith) (omega arith) t)) (ih j hj t)
 
-      forward-substitution-same : (k : ℕ) → k ≤ n → (j : ℕ) → j < n → forwardSubstitution N U b k j ≡ forwardSubstitution N U′ c k j
+      pub forward-substitution-same : (k : ℕ) → k ≤ n → (j : ℕ) → j < n → forwardSubstitution N U b k j ≡ forwardSubstitution N U′ c k j
       unfolding forwardSubstitution
       forward-substitution-same zero l j hj = e j hj
       forward-substitution-same (suc k) l j hj =

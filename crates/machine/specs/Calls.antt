@@ -21,6 +21,13 @@ pub data Answer : Type 0 where
   refused : ℕ → Answer
   refusedAt : ℕ → ℕ → Answer
 
+-- Success is 0, and a refusal has its number.
+abbrev pub numberOf : Answer → ℕ
+numberOf done = 0
+numberOf (moved r k) = 0
+numberOf (refused number) = number
+numberOf (refusedAt number i) = number
+
 -- what a call leaves: its answer, the right-hand side as it leaves it ([] for an update), and the state
 pub record Result (A : Type 0) : Type 0 where
   pub answer : Answer
@@ -32,6 +39,11 @@ infixr 25 _orElse_
 abbrev pub _orElse_ : Option Answer → Option Answer → Option Answer
 none orElse b = b
 some a orElse b = some a
+
+-- the number of what was or was not refused
+abbrev pub refusalNumber : Option Answer → ℕ
+refusalNumber none = 0
+refusalNumber (some a) = numberOf a
 
 abbrev pub refuseIf : Bool → ℕ → Option Answer
 refuseIf b number = cond b (some (refused number)) none

@@ -1,6 +1,6 @@
 -- What an outcome says of an accepted call: it is the machine's, the dimension stays within the capacity, an update leaves the solve work and the buffers'
 -- ends, and a solve leaves the factors.
-use mathlib.Core.Path.{_≡_, subst}
+use mathlib.Core.Path.{_≡_, refl, ap, _∙_, subst}
 use mathlib.Core.Bool.{Bool, true, false}
 use mathlib.Core.List.{List}
 use mathlib.Core.Option.{Option, none}
@@ -8,7 +8,8 @@ use Prim.Native.Nat.{ℕ, _*_, _≤_, _<_, max}
 use native.Mathlib.Omega.{arith}
 use lib.ListN.{getD}
 use Rattle.numbers.specs.NumberForm.{NumberForm}
-use Rattle.machine.specs.Calls.{Call, Answer, isUpdate}
+use Rattle.machine.specs.Tables.{State}
+use Rattle.machine.specs.Calls.{Call, push, replaceRow, replaceColumn, remove, solve, solveTransposed, Answer, numberOf, isUpdate}
 use Rattle.machine.specs.Machine.{accepted, stepUnder}
 use Rattle.machine.specs.Agreement.{Same}
 use Rattle.storage.specs.Places.{uLength, lIndex}
@@ -20,6 +21,15 @@ use Rattle.managed.specs.Outcome.{Frame, Outcome}
 use Rattle.managed.proofs.Refusals.{reached-within}
 use Rattle.managed.proofs.ListClaim.{accepted-grows}
 
+accepted-is-0 : (N : NumberForm) (E T : N .Value) (S : State (N .Value)) (c : Call (N .Value)) → numberOf (accepted N E T S c .answer) ≡ 0
+unfolding accepted
+accepted-is-0 N E T S (push row column d) = refl
+accepted-is-0 N E T S (replaceRow r row) = refl
+accepted-is-0 N E T S (replaceColumn k column) = refl
+accepted-is-0 N E T S (remove r k) = refl
+accepted-is-0 N E T S (solve b) = refl
+accepted-is-0 N E T S (solveTransposed b) = refl
+
 module _ (N : NumberForm) (E T : N .Value) {c : Call (N .Value)} {s t : Instance (N .Value)} {a : Answer} {b : List (N .Value)} (o : Outcome N E T c s t a b)
     (e : refusalAt N s c ≡ none) where
   open NumberForm N using (absent)
@@ -27,6 +37,10 @@ module _ (N : NumberForm) (E T : N .Value) {c : Call (N .Value)} {s t : Instance
   pub accepted-same : Same (record { answer = a; solved = b; after = view N t }) (accepted N E T (view N s) c)
   unfolding stepUnder
   accepted-same = subst (λ (p : Option Answer). Same (record { answer = a; solved = b; after = view N t }) (stepUnder N E T p (view N s) c)) e (o .result)
+
+  -- the answer of an accepted call is 0
+  pub accepted-number : numberOf a ≡ 0
+  accepted-number = ap numberOf (accepted-same .answer) ∙ accepted-is-0 N E T (view N s) c
 
   pub dimension-within : max (s .n) (t .n) ≤ s .c
   dimension-within = omega (arith, accepted-same .after .n, accepted-grows N E T (view N s) c, reached-within N s c e)

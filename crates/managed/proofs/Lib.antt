@@ -1,5 +1,6 @@
 pub mod StorageTests
 pub mod Refusals
+pub mod Outcomes
 pub mod Refused
 pub mod Accepted
 pub mod ListClaim

@@ -1,8 +1,9 @@
 -- An instance that has room refuses just what the plain machine refuses; and what an instance has that doesn't refuse a call.
-use mathlib.Core.Path.{_≡_, ap, _∙_}
+use mathlib.Core.Path.{_≡_, ap, _∙_, subst}
 use mathlib.Core.Bool.{Bool, true, false, not, _&&_, _||_, cond}
 use mathlib.Core.Option.{Option, none}
-use Prim.Native.Nat.{ℕ, _+_, _≤_}
+use Prim.Native.Nat.{ℕ, _+_, _^_, _≤_, _<_}
+use native.Mathlib.Decide.{decLt}
 use native.Mathlib.Omega.{arith}
 use lib.Dec.{T as So, ltb, eqb, ltb→lt, eqb→eq, nltb→le}
 use lib.ListN.{length}
@@ -11,10 +12,11 @@ use Rattle.numbers.specs.NumberForm.{NumberForm}
 use Rattle.machine.specs.Calls.{Call, Answer, _orElse_, refuseIf, isPush, isUpdate}
 use Rattle.machine.specs.Machine.{refusal}
 use Rattle.machine.proofs.Choice.{neqb→ne}
-use Rattle.machine.proofs.Refusals.{or-else-none, or-else-last, refuse-if-none, refuse-if-false}
+use Rattle.machine.proofs.Refusals.{or-else-none, or-else-last, refuse-if-none, refuse-if-false, equations-hold}
 use Rattle.storage.specs.Places.{lLength, uLength, overflows}
+use Rattle.storage.proofs.Lengths.{overflows-from}
 use Rattle.managed.specs.Instance.{Instance, view}
-use Rattle.managed.specs.Refusals.{storageTests, lentTests, reached, refusalAt}
+use Rattle.managed.specs.Refusals.{storageTests, workspaceTests, lentTests, reached, refusalAt}
 
 module _ (N : NumberForm) (s : Instance (N .Value)) (c : Call (N .Value)) where
   -- With room for the pushes, an instance whose storage passes refuses just what the plain machine refuses: 4 and 8 don't occur.
@@ -38,39 +40,76 @@ module _ (N : NumberForm) (s : Instance (N .Value)) (c : Call (N .Value)) where
           let b = ltb→lt (length (s .y)) (reached s c) (and-r (isUpdate c) (ltb (length (s .y)) (reached s c)) t) in
           omega arith)
 
--- a dimension, a capacity and lengths that pass 1, 2 and 3
-module _ (n c l u : ℕ) (h : storageTests n c l u ≡ none) where
-  dimension-passes : n ≤ c
-  unfolding storageTests
-  dimension-passes = nltb→le c n (refuse-if-none (ltb c n) 1 (or-else-none (refuseIf (ltb c n) 1) _ h .0))
+-- two tests that both pass
+neither : {P Q : Type 0} (p q : Bool) → So (not (p || q)) → (So (not p) → P) → (So (not q) → Q) → P × Q
+neither true q t f g = absurd t
+neither false true t f g = absurd t
+neither false false t f g = (f tt, g tt)
 
-  lengths-pass : (lLength c ≤ l) × (uLength c ≤ u)
-  unfolding storageTests
-  lengths-pass =
-      let rest = or-else-none (refuseIf (ltb c n) 1) _ h .1 in
-      go (ltb l (lLength c)) (ltb u (uLength c)) (refuse-if-none (ltb l (lLength c) || ltb u (uLength c)) 3 (or-else-none (refuseIf (overflows c) 2) _ rest .1))
-      (nltb→le l (lLength c)) (nltb→le u (uLength c))
-    where
-      go : {P Q : Type 0} (p q : Bool) → So (not (p || q)) → (So (not p) → P) → (So (not q) → Q) → P × Q
-      go true q t f g = absurd t
-      go false true t f g = absurd t
-      go false false t f g = (f tt, g tt)
+-- a dimension, a capacity and lengths that pass 1, 2 and 3
+pub record StoragePassed (n c l u : ℕ) : Type 0 where
+  pub dimension : n ≤ c
+  pub capacity : c < 2 ^ 32
+  pub L : lLength c ≤ l
+  pub U : uLength c ≤ u
+
+pub storage-passed : (n c l u : ℕ) → storageTests n c l u ≡ none → StoragePassed n c l u
+unfolding storageTests
+storage-passed n c l u h =
+    let one = or-else-none (refuseIf (ltb c n) 1) _ h in
+    let two = or-else-none (refuseIf (overflows c) 2) _ (one .1) in
+    let three = neither (ltb l (lLength c)) (ltb u (uLength c)) (refuse-if-none (ltb l (lLength c) || ltb u (uLength c)) 3 (two .1)) (nltb→le l (lLength c)) (nltb→le u (uLength c)) in
+    record {
+      dimension = nltb→le c n (refuse-if-none (ltb c n) 1 (one .0));
+      capacity = within-usize (decLt c (2 ^ 32)) (refuse-if-none (overflows c) 2 (two .0));
+      L = three .0;
+      U = three .1;
+    }
+  where
+    within-usize : Dec (c < 2 ^ 32) → So (not (overflows c)) → c < 2 ^ 32
+    within-usize (yes b) k = b
+    within-usize (no b) k = absurd (subst (λ (o : Bool). So (not o)) (overflows-from c (omega (arith, b))) k)
+
+-- workspaces of one length
+pub workspaces-passed : (y z w : ℕ) → workspaceTests y z w ≡ none → (y ≡ z) × (y ≡ w)
+unfolding workspaceTests
+workspaces-passed y z w h = equations-hold y z y w 3 h
 
 -- an instance that does not refuse a call
 module _ (N : NumberForm) (s : Instance (N .Value)) (c : Call (N .Value)) (e : refusalAt N s c ≡ none) where
-  storage-passes : storageTests (s .n) (s .c) (length (s .l)) (length (s .u)) ≡ none
-  unfolding refusalAt lentTests
-  storage-passes = or-else-none _ _ (or-else-none (lentTests s c) _ e .0) .0
+  after-lent : (refuseIf (isPush c && eqb (s .n) (s .c)) 4 ≡ none) × (refusal N (view N s) c ≡ none) × (refuseIf (isUpdate c && ltb (length (s .y)) (reached s c)) 8 ≡ none)
+  unfolding refusalAt
+  after-lent =
+      let four = or-else-none (refuseIf (isPush c && eqb (s .n) (s .c)) 4) _ (or-else-none (lentTests s c) _ e .1) in
+      let last = or-else-none (refusal N (view N s) c) _ (four .1) in
+      (four .0, last .0, last .1)
 
-  pub lengths-within : (lLength (s .c) ≤ length (s .l)) × (uLength (s .c) ≤ length (s .u))
-  lengths-within = lengths-pass (s .n) (s .c) (length (s .l)) (length (s .u)) storage-passes
+  lent-passed : (storageTests (s .n) (s .c) (length (s .l)) (length (s .u)) ≡ none)
+      × (cond (isUpdate c) (workspaceTests (length (s .y)) (length (s .z)) (length (s .w))) none ≡ none)
+  unfolding refusalAt lentTests
+  lent-passed = or-else-none _ _ (or-else-none (lentTests s c) _ e .0)
+
+  pub accepted-storage : StoragePassed (s .n) (s .c) (length (s .l)) (length (s .u))
+  accepted-storage = storage-passed (s .n) (s .c) (length (s .l)) (length (s .u)) (lent-passed .0)
+
+  -- nor does the plain machine
+  pub accepted-machine : refusal N (view N s) c ≡ none
+  accepted-machine = after-lent .1
 
   pub reached-within : reached s c ≤ s .c
-  unfolding refusalAt
-  reached-within =
-      let test = or-else-none (refuseIf (isPush c && eqb (s .n) (s .c)) 4) _ (or-else-none (lentTests s c) _ e .1) in
-      go (isPush c) (dimension-passes (s .n) (s .c) (length (s .l)) (length (s .u)) storage-passes) (refuse-if-none (isPush c && eqb (s .n) (s .c)) 4 (test .0))
+  reached-within = go (isPush c) (accepted-storage .dimension) (refuse-if-none (isPush c && eqb (s .n) (s .c)) 4 (after-lent .0))
     where
       go : (p : Bool) → s .n ≤ s .c → So (not (p && eqb (s .n) (s .c))) → s .n + cond p 1 0 ≤ s .c
       go true h k = omega (arith, neqb→ne (s .n) (s .c) k)
       go false h k = omega arith
+
+  -- an update has the workspace that it needs
+  module _ (update : isUpdate c ≡ true) where
+    equal-workspaces : (length (s .y) ≡ length (s .z)) × (length (s .y) ≡ length (s .w))
+    equal-workspaces = workspaces-passed (length (s .y)) (length (s .z)) (length (s .w)) (rw update at (lent-passed .1))
+
+    pub accepted-workspaces : (reached s c ≤ length (s .y)) × (reached s c ≤ length (s .z)) × (reached s c ≤ length (s .w))
+    accepted-workspaces =
+        let h = nltb→le (length (s .y)) (reached s c) (refuse-if-none (ltb (length (s .y)) (reached s c)) 8 (rw update at (after-lent .2))) in
+        let same = equal-workspaces in
+        (h, omega (arith, same .0), omega (arith, same .1))

@@ -11,18 +11,20 @@ use lib.ListN.{length}
 use borrow.Author.Tests.{eq-eqb}
 use Rattle.numbers.specs.NumberForm.{NumberForm}
 use Rattle.machine.specs.Tables.{State}
-use Rattle.machine.specs.Calls.{Call, push, replaceRow, replaceColumn, remove, solve, solveTransposed, Answer, isPush, isUpdate}
+use Rattle.machine.specs.Calls.{Call, push, replaceRow, replaceColumn, remove, solve, solveTransposed, Answer, Result, given, isPush, isUpdate}
 use Rattle.machine.specs.Machine.{accepted, stepUnder}
-use Rattle.machine.specs.Agreement.{Agree, Same}
+use Rattle.machine.specs.Agreement.{Agree}
+use Rattle.machine.proofs.Choice.{agree-refl}
 use Rattle.storage.specs.Places.{lLength, uLength, overflows, lIndex, uIndex}
-use Rattle.storage.specs.Views.{Kept}
 use Rattle.storage.proofs.Places.{lIndex-within, lIndex-injective, uIndex-within, uIndex-injective}
 use Rattle.managed.specs.Instance.{Instance, view}
 use Rattle.managed.specs.Refusals.{workspaceTests, lentTests, refusalAt}
 use Rattle.managed.specs.Lists.{pushes, Event, Trace, Setting}
 use Rattle.managed.specs.Outcome.{Frame, Outcome}
 use Rattle.managed.proofs.StorageTests.{storage-passes}
-use Rattle.managed.proofs.Refusals.{reached-within, lengths-within}
+use Rattle.managed.proofs.Refusals.{reached-within, accepted-storage}
+use Rattle.storage.proofs.Kept.{kept-all}
+use Rattle.managed.proofs.Outcomes.{outcome-refused, outcome-accepted}
 use Rattle.managed.proofs.Writing.{written, written-at, written-kept}
 use Rattle.managed.proofs.ListClaim.{accepted-grows}
 
@@ -35,26 +37,6 @@ module _ (N : NumberForm) (E T : N .Value) where
     pub answer : Answer
     pub solved : List Value
     pub outcome : Outcome N E T c s after answer solved
-
-  kept-all : (Free : ℕ → Type 0) (xs : List Value) → Kept N Free xs xs
-  kept-all Free xs = record { long = refl; same = λ q _. refl }
-
-  -- the call under the refusal o, whose result the instance t shows
-  met : (s t : Instance Value) (c : Call Value) (o : Option Answer) → refusalAt N s c ≡ o → Agree (view N t) (stepUnder N E T o (view N s) c .after) → t .c ≡ s .c
-      → ((r : Answer) → o ≡ some r → t ≡ s) → (o ≡ none → Frame N (isUpdate c) s t) → Met s c
-  met s t c o e h k u f =
-      let R = stepUnder N E T o (view N s) c in
-      record {
-        after = t;
-        answer = R .answer;
-        solved = R .solved;
-        outcome = record {
-          result = subst (λ (p : Option Answer). Same (record { answer = R .answer; solved = R .solved; after = view N t }) (stepUnder N E T p (view N s) c)) (sym e) (record { answer = refl; solved = refl; after = h });
-          capacity = k;
-          untouched = λ r q. u r (subst (λ (p : Option Answer). p ≡ some r) e q);
-          frame = λ q. f (subst (λ (p : Option Answer). p ≡ none) e q);
-        };
-      }
 
   -- an accepted update: the machine's factors are written to their places
   module _ (s : Instance Value) (c : Call Value) (e : refusalAt N s c ≡ none) where
@@ -79,11 +61,11 @@ module _ (N : NumberForm) (E T : N .Value) where
     shown = record {
       n = refl;
       L = λ i j hi hj.
-          let h : lIndex (s .c) i j < length (s .l) = omega (arith, lIndex-within (s .c) i j (omega (arith, within)) (omega (arith, within)), lengths-within N s c e .0) in
+          let h : lIndex (s .c) i j < length (s .l) = omega (arith, lIndex-within (s .c) i j (omega (arith, within)) (omega (arith, within)), accepted-storage N s c e .L) in
           written-at N (lIndex (s .c)) (λ i j. true) (R .L) (R .n) (s .l)
           (λ i j p q hi hj hp hq _ _. lIndex-injective (s .c) i j p q (omega (arith, within)) (omega (arith, within))) i j hi hj tt h;
       U = λ i j hij hj.
-          let h : uIndex (s .c) i j < length (s .u) = omega (arith, uIndex-within (s .c) i j hij (omega (arith, within)), lengths-within N s c e .1) in
+          let h : uIndex (s .c) i j < length (s .u) = omega (arith, uIndex-within (s .c) i j hij (omega (arith, within)), accepted-storage N s c e .U) in
           written-at N (uIndex (s .c)) leb (R .U) (R .n) (s .u)
           (λ i j p q hi hj hp hq a b. uIndex-injective (s .c) i j p q (leb→le i j a) (omega (arith, within)) (leb→le p q b) (omega (arith, within))) i j (omega arith) hj (le→leb i j hij) h;
     }
@@ -92,9 +74,9 @@ module _ (N : NumberForm) (E T : N .Value) where
     framed = record {
       l = written-kept N (lIndex (s .c)) (λ i j. true) (R .L) (R .n) (s .l) _ (λ i j hi hj _. (i, j, omega arith, omega arith, refl));
       u = written-kept N (uIndex (s .c)) leb (R .U) (R .n) (s .u) _ (λ i j hi hj a. (i, j, leb→le i j a, omega arith, refl));
-      y = kept-all _ (s .y);
-      z = kept-all _ (s .z);
-      w = kept-all _ (s .w);
+      y = kept-all N;
+      z = kept-all N;
+      w = kept-all N;
     }
 
   solve-stands : (S : State Value) (c : Call Value) → isUpdate c ≡ false → accepted N E T S c .after ≡ S
@@ -106,23 +88,29 @@ module _ (N : NumberForm) (E T : N .Value) where
   solve-stands S (solve b) h = refl
   solve-stands S (solveTransposed b) h = refl
 
-  agree-refl : (S : State Value) → Agree S S
-  agree-refl S = record { n = refl; L = λ i j _ _. refl; U = λ i j _ _. refl }
-
-  some≢none : (r : Answer) → _≡_ {A = Option Answer} (some r) none → ⊥
-  some≢none r h = let z : _≡_ {A = ℕ} 0 1 = cc in omega arith
-
   pub every-call : (s : Instance Value) (c : Call Value) → Met s c
-  unfolding stepUnder
   every-call s c = go (refusalAt N s c) refl (isUpdate c) refl
     where
+      R : Result Value
+      R = accepted N E T (view N s) c
+
       go : (o : Option Answer) → refusalAt N s c ≡ o → (b : Bool) → isUpdate c ≡ b → Met s c
-      go (some r) e b k = met s s c (some r) e (agree-refl (view N s)) refl (λ _ _. refl) (λ q. absurd (some≢none r q))
-      go none e true k =
-          met s (t s c e) c none e (shown s c e) refl (λ r q. absurd (some≢none r (sym q))) (λ _. subst (λ (p : Bool). Frame N p s (t s c e)) (sym k) (framed s c e))
-      go none e false k =
-          met s s c none e (subst (Agree (view N s)) (sym (solve-stands (view N s) c k)) (agree-refl (view N s))) refl (λ r q. absurd (some≢none r (sym q)))
-          (λ _. subst (λ (p : Bool). Frame N p s s) (sym k) (record { l = kept-all _ (s .l); u = refl; y = refl; z = refl; w = refl }))
+      go (some r) e b k = record { after = s; answer = r; solved = given c; outcome = outcome-refused N E T c s e }
+      go none e true k = record {
+        after = t s c e;
+        answer = R .answer;
+        solved = R .solved;
+        outcome = outcome-accepted N E T c s e (record { answer = refl; solved = refl; after = shown s c e }) refl
+            (subst (λ (p : Bool). Frame N p s (t s c e)) (sym k) (framed s c e));
+      }
+      go none e false k = record {
+        after = s;
+        answer = R .answer;
+        solved = R .solved;
+        outcome = outcome-accepted N E T c s e
+            (record { answer = refl; solved = refl; after = subst (Agree (view N s)) (sym (solve-stands (view N s) c k)) (agree-refl (view N s)) }) refl
+            (subst (λ (p : Bool). Frame N p s s) (sym k) (record { l = kept-all N; u = refl; y = refl; z = refl; w = refl }));
+      }
 
   -- ---- lists
 

@@ -1,5 +1,5 @@
 -- An instance is a state with the storage and workspaces lent to its calls; its view is what the plain machine has of it.
-use mathlib.Core.List.{List}
+use mathlib.Core.List.{List, []}
 use Prim.Native.Nat.{ℕ}
 use Rattle.numbers.specs.NumberForm.{NumberForm}
 use Rattle.machine.specs.Tables.{State}
@@ -14,6 +14,14 @@ pub record Instance (A : Type 0) : Type 0 where
   pub y : List A
   pub z : List A
   pub w : List A
+
+module _ {A : Type 0} where
+  abbrev pub instance : ℕ → ℕ → List A → List A → List A → List A → List A → Instance A
+  instance n c l u y z w = record { n = n; c = c; l = l; u = u; y = y; z = z; w = w }
+
+  -- as lent to a solve
+  abbrev pub lentToSolve : ℕ → ℕ → List A → List A → Instance A
+  lentToSolve n c l u = instance n c l u [] [] []
 
 module _ (N : NumberForm) where
   open NumberForm N using (Value)

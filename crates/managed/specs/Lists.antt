@@ -1,10 +1,10 @@
 -- Demand 3: lists of managed calls, what an instance makes of one, and the claim about the whole list.
+use lib.Dec.{T as So}
 use mathlib.Core.Path.{_≡_}
 use mathlib.Core.Bool.{cond}
 use mathlib.Core.List.{List, [], _∷_}
 use mathlib.Core.Option.{none}
 use Prim.Native.Nat.{ℕ, _+_, _≤_}
-use lib.Dec.{T as So}
 use lib.ListN.{length}
 use Rattle.numbers.specs.NumberForm.{NumberForm}
 use Rattle.machine.specs.Tables.{State}

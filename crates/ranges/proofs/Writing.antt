@@ -3,8 +3,9 @@ use mathlib.Core.Path.{_≡_, refl, sym, _∙_}
 use mathlib.Core.Bool.{Bool}
 use mathlib.Core.List.{List}
 use mathlib.Core.Logic.{_≢_, _⊎_, inl, inr, ⊎-elim}
-use Prim.Native.Nat.{ℕ, _+_, _≤_, _<_}
+use Prim.Native.Nat.{ℕ, _+_, _-_, _≤_, _<_}
 use native.Mathlib.Numerals.{add-one}
+use native.Mathlib.Decide.{decLt}
 use native.Mathlib.Omega.{arith}
 use lib.ListN.{length, set, length-set}
 use lib.Seq.{getD-set-same, getD-set-other}
@@ -13,7 +14,6 @@ use Rattle.numbers.specs.NumberForm.{NumberForm}
 use Rattle.numbers.specs.PairStep.{first, second}
 use Rattle.machine.specs.Tables.{Vector}
 use Rattle.machine.specs.Products.{entry, sum}
-use Rattle.storage.specs.Views.{Kept}
 use Rattle.storage.proofs.Kept.{kept-all}
 use Rattle.ranges.specs.Written.{from, Written, RowsTransformed}
 
@@ -123,6 +123,49 @@ module _ (N : NumberForm) where
         long = length-set l₁ (y + k) b ∙ length-set l (x + k) a ∙ done .kept .long;
         same = λ q free. getD-set-other l₁ (y + k) q b absent (λ e. free (inr (k, omega arith, e)))
             ∙ getD-set-other l (x + k) q a absent (λ e. free (inl (k, omega arith, e)))
+            ∙ done .kept .same q (λ w. free (⊎-elim (λ p. inl (p .0, omega arith, p .2)) (λ p. inr (p .0, omega arith, p .2)) w));
+      };
+    }
+
+  -- a further block of pairs, behind the first k
+  module _ {swap : Bool} {m : Value} (x y n k : ℕ) {count : ℕ} {l₀ l l′ : List Value} (apart : (x + n ≤ y) ⊎ (y + n ≤ x)) (turn : k + count ≤ n)
+      (done : RowsTransformed N swap m x y k l₀ l) (block : RowsTransformed N swap m (x + k) (y + k) count l l′) where
+    apart-both : (i j : ℕ) → i < n → j < n → x + i ≢ y + j
+    apart-both i j hi hj e = ⊎-elim (λ h. omega arith) (λ h. omega arith) apart
+
+    -- the block does not reach the first k pairs, and the first k do not reach the block
+    block-leaves-x : (j : ℕ) → j < k → entry N l′ (x + j) ≡ entry N l (x + j)
+    block-leaves-x j h = block .kept .same (x + j) (λ w. ⊎-elim (λ p. omega arith) (λ p. apart-both j (k + p .0) (omega arith) (omega arith) (omega arith)) w)
+
+    block-leaves-y : (j : ℕ) → j < k → entry N l′ (y + j) ≡ entry N l (y + j)
+    block-leaves-y j h = block .kept .same (y + j) (λ w. ⊎-elim (λ p. apart-both (k + p .0) j (omega arith) (omega arith) (omega arith)) (λ p. omega arith) w)
+
+    left-for-x : (j : ℕ) → k ≤ j → j < n → entry N l (x + j) ≡ entry N l₀ (x + j)
+    left-for-x j h g = done .kept .same (x + j) (λ w. ⊎-elim (λ p. omega arith) (λ p. apart-both j (p .0) g (omega arith) (p .2)) w)
+
+    left-for-y : (j : ℕ) → k ≤ j → j < n → entry N l (y + j) ≡ entry N l₀ (y + j)
+    left-for-y j h g = done .kept .same (y + j) (λ w. ⊎-elim (λ p. apart-both (p .0) j (omega arith) g (sym (p .2))) (λ p. omega arith) w)
+
+    pub rows-further : RowsTransformed N swap m x y (k + count) l₀ l′
+    rows-further = record {
+      firsts = λ j h. elim (decLt j k) [
+        | yes b ↦ block-leaves-x j b ∙ done .firsts j b
+        | no b ↦
+            let e : x + k + (j - k) ≡ x + j = omega arith in
+            let f : y + k + (j - k) ≡ y + j = omega arith in
+            (rw (e, f) at (block .firsts (j - k) (omega arith))) ∙ (λ t. first N swap (left-for-x j (omega arith) (omega arith) t) (left-for-y j (omega arith) (omega arith) t))
+      ];
+      seconds = λ j h. elim (decLt j k) [
+        | yes b ↦ block-leaves-y j b ∙ done .seconds j b
+        | no b ↦
+            let e : x + k + (j - k) ≡ x + j = omega arith in
+            let f : y + k + (j - k) ≡ y + j = omega arith in
+            (rw (e, f) at (block .seconds (j - k) (omega arith))) ∙ (λ t. second N swap m (left-for-x j (omega arith) (omega arith) t) (left-for-y j (omega arith) (omega arith) t))
+      ];
+      kept = record {
+        long = block .kept .long ∙ done .kept .long;
+        same = λ q free.
+            block .kept .same q (λ w. free (⊎-elim (λ p. inl (k + p .0, omega arith, omega arith)) (λ p. inr (k + p .0, omega arith, omega arith)) w))
             ∙ done .kept .same q (λ w. free (⊎-elim (λ p. inl (p .0, omega arith, p .2)) (λ p. inr (p .0, omega arith, p .2)) w));
       };
     }

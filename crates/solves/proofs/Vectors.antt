@@ -2,11 +2,12 @@
 use mathlib.Core.Path.{_≡_, refl, sym, ap, _∙_}
 use mathlib.Core.List.{List}
 use Prim.Native.Nat.{ℕ, suc, _+_, _-_, _*_, _≤_, _<_}
-use native.Mathlib.Nat.{zero-add}
+use native.Mathlib.Nat.{zero-add, add-zero}
 use native.Mathlib.Numerals.{add-one}
+use native.Mathlib.Decide.{decLt}
 use native.Mathlib.Omega.{arith}
 use lib.Dec.{eqb, eqb→eq}
-use lib.ListN.{length, set}
+use lib.ListN.{length, set, length-set}
 use lib.Seq.{getD-set-same, getD-set-other}
 use Rattle.numbers.specs.NumberForm.{NumberForm}
 use Rattle.machine.specs.Tables.{Vector, Table, put}
@@ -15,11 +16,12 @@ use Rattle.machine.specs.Solves.{substituted, backSubstitution, forwardSubstitu
 use Rattle.machine.proofs.Choice.{neqb→ne, pick}
 use Rattle.machine.proofs.Products.{sum-same}
 use Rattle.storage.specs.Places.{uIndex}
-use Rattle.storage.specs.Views.{viewL, viewU, Kept}
+use Rattle.storage.specs.Views.{viewL, viewU}
 use Rattle.storage.proofs.Kept.{kept-all, kept-set, kept-then, kept-more}
-use Rattle.storage.proofs.Places.{uIndex-along}
+use Rattle.storage.proofs.Places.{row-before, uIndex-along}
 use Rattle.ranges.specs.Written.{from, Written}
-use Rattle.ranges.proofs.Writing.{sum-more}
+use Rattle.ranges.proofs.Writing.{range-apart, written-none, written-more, stored, sum-more}
+use Rattle.solves.specs.Products.{entriesFrom, rowSum}
 
 module _ (N : NumberForm) where
   open NumberForm N using (Value, add, sub, mul, div, absent)
@@ -27,12 +29,16 @@ module _ (N : NumberForm) where
   -- ---- what is written
 
   -- the same values by another name
-  written-as : {place : ℕ → ℕ} {n : ℕ} (f : Vector Value) {g : Vector Value} {a b : List Value} → ((k : ℕ) → k < n → f k ≡ g k) → Written N place n f a b → Written N place n g a b
+  pub written-as : {place : ℕ → ℕ} {n : ℕ} (f : Vector Value) {g : Vector Value} {a b : List Value} → ((k : ℕ) → k < n → f k ≡ g k) → Written N place n f a b → Written N place n g a b
   written-as f e h = record { value = λ k l. h .value k l ∙ e k l; kept = h .kept }
 
   -- written over
   pub written-over : {place : ℕ → ℕ} {n : ℕ} {f g : Vector Value} {a b c : List Value} → Written N place n f a b → Written N place n g b c → Written N place n g a c
   written-over h g = record { value = g .value; kept = kept-then N (h .kept) (g .kept) }
+
+  -- further entries of one vector
+  pub written-further : {m n : ℕ} {f : Vector Value} {a b c : List Value} → m ≤ n → Written N (λ i. i) m f a b → Written N (λ i. i) n f b c → Written N (λ i. i) n f a c
+  written-further l h g = record { value = g .value; kept = kept-then N (kept-more N (λ q w. (w .0, omega arith, w .2)) (h .kept)) (g .kept) }
 
   pub written-from-0 : {n : ℕ} {f : Vector Value} {a b : List Value} → Written N (from 0) n f a b → Written N (λ i. i) n f a b
   written-from-0 {b = b} h = record {
@@ -57,22 +63,50 @@ module _ (N : NumberForm) where
   -- ---- products
 
   -- a row's sum is an entry of the product
-  pub row-product : (c n i : ℕ) (l v : List Value) {s : Value} → s ≡ sum N n (λ k. mul (entry N l (i * c + k)) (entry N v (0 + k))) → s ≡ product N n (viewL N c l) (entry N v) i
+  pub row-product : (c n i a start : ℕ) (l v : List Value) {s : Value} → a ≡ i * c → s ≡ rowSum N a start n l v → s ≡ product N n (viewL N c l) (entriesFrom N start v) i
   unfolding product
-  row-product c n i l v e = e ∙ sum-same N n _ _ (λ j h t. mul (entry N l (i * c + j)) (entry N v (zero-add j t)))
+  row-product c n i a start l v e f = f ∙ (λ t. rowSum N (e t) start n l v)
 
   -- the sums after j rows
-  abbrev pub rowSums : ℕ → ℕ → List Value → List Value → Vector Value
-  rowSums c j l v i = sum N j (λ q. mul (viewL N c l q i) (entry N v q))
+  abbrev pub rowSums : ℕ → ℕ → List Value → Vector Value → Vector Value
+  rowSums c j l v i = sum N j (λ q. mul (viewL N c l q i) (v q))
 
-  pub row-sums-more : (c n j : ℕ) (l v : List Value) {x : Value} {a b b′ : List Value} → x ≡ entry N v j → Written N (λ i. i) n (rowSums c j l v) a b
+  pub row-sums-more : (c n j : ℕ) (l : List Value) (v : Vector Value) {x : Value} {a b b′ : List Value} → x ≡ v j → Written N (λ i. i) n (rowSums c j l v) a b
       → Written N (λ i. i) n (λ k. add (entry N b k) (mul (entry N l (j * c + k)) x)) b b′ → Written N (λ i. i) n (rowSums c (j + 1) l v) a b′
   row-sums-more c n j l v {x} e h g =
       written-over h (written-as _ (λ k l′. (λ t. add (h .value k l′ t) (mul (entry N l (j * c + k)) (e t))) ∙ sum-more N _ refl) g)
 
-  pub row-sums-all : (c n : ℕ) (l v : List Value) {a b : List Value} → Written N (λ i. i) n (rowSums c n l v) a b → Written N (λ i. i) n (productTransposed N n (viewL N c l) (entry N v)) a b
+  pub row-sums-all : (c n : ℕ) (l : List Value) (v : Vector Value) {a b : List Value} → Written N (λ i. i) n (rowSums c n l v) a b → Written N (λ i. i) n (productTransposed N n (viewL N c l) v) a b
   unfolding productTransposed
   row-sums-all c n l v h = h
+
+  -- ---- four entries at once
+
+  -- the rows after row i, and the fourth of them is one of c rows
+  pub rows-after : (i c : ℕ) → (i * c + c ≡ (i + 1) * c) × (i * c + c + c ≡ (i + 2) * c) × (i * c + c + c + c ≡ (i + 3) * c)
+  rows-after i c = (omega arith, omega arith, omega arith)
+
+  pub four-rows-fit : (i c : ℕ) → i + 4 ≤ c → i * c + c + c + c + c ≤ c * c
+  four-rows-fit i c h = omega (arith, row-before c (i + 3) c (omega arith))
+
+  pub four-stored : (i : ℕ) {f : Vector Value} {l : List Value} {a b c d : Value} → i + 4 ≤ length l → a ≡ f 0 → b ≡ f 1 → c ≡ f 2 → d ≡ f 3
+      → Written N (from i) 4 f l (set (set (set (set l i a) (i + 1) b) (i + 2) c) (i + 3) d)
+  four-stored i {f} {l} {a} {b} {c} {d} h is-a is-b is-c is-d =
+      let one = stored N {place = from i} {f = f} {k = 0} {old = l} (range-apart N i 0) (written-none N) (sym (add-zero i)) (omega arith) is-a in
+      let two = written-more N (range-apart N i 1) one (rw length-set (omega arith)) is-b in
+      let three = written-more N (range-apart N i 2) two (rw (length-set, length-set) (omega arith)) is-c in
+      written-more N (range-apart N i 3) three (rw (length-set, length-set, length-set) (omega arith)) is-d
+
+  -- behind the first i
+  pub written-four : (i : ℕ) {f : Vector Value} {old l : List Value} → Written N (λ k. k) i f old l → {l′ : List Value} → Written N (from i) 4 (λ k. f (i + k)) l l′
+      → Written N (λ k. k) (i + 4) f old l′
+  written-four i {f} {old} {l} done {l′} four = record {
+    value = λ k h. elim (decLt k i) [
+      | yes b ↦ four .kept .same k (λ a. omega arith) ∙ done .value k b
+      | no b ↦ let e : i + (k - i) ≡ k = omega arith in ap (entry N l′) (sym e) ∙ four .value (k - i) (omega arith) ∙ ap f e
+    ];
+    kept = kept-then N (kept-more N (λ q a. (a .0, omega arith, a .2)) (done .kept)) (kept-more N (λ q a. (i + a .0, omega arith, a .2)) (four .kept));
+  }
 
   -- ---- substitutions
 

@@ -1,4 +1,5 @@
-// The parts of a solve: products with L, substitutions with U, and the search for a diagonal that none can divide by.
+// Solves, and their parts: products with L, substitutions with U, and the search for a diagonal that none can divide by.
 pub mod diagonal;
+pub mod in_place;
 pub mod products;
 pub mod substitution;

@@ -5,17 +5,9 @@ use mathlib.Core.Option.{Option, none, some}
 use Prim.Native.Nat.{ℕ, _*_}
 use lib.Dec.{ltb, eqb}
 use lib.IntN.{ℤ, pos, negsuc}
-use Rattle.machine.specs.Calls.{Answer, done, moved, refused, refusedAt, _orElse_, refuseIf}
+use Rattle.machine.specs.Calls.{Answer, _orElse_, refusalNumber, refuseIf}
 use Rattle.storage.specs.Places.{uLength}
 use Rattle.zero_based.specs.Numbers.{sizeOf, strideOf, outside}
-
--- the number that a call returns: success is 0
-abbrev pub numberOf : Option Answer → ℕ
-numberOf none = 0
-numberOf (some done) = 0
-numberOf (some (moved r k)) = 0
-numberOf (some (refused number)) = number
-numberOf (some (refusedAt number i)) = number
 
 -- `mode`, a size, is one of two modes and the index that they use isn't 0 to n − 1
 abbrev pub indexOutside : ℕ → ℕ → ℤ → ℕ → Bool
@@ -51,16 +43,16 @@ solveRefusal maxmod n u y = refuseIf (eqb (sizeOf n) 0) 11 orElse refuseIf (solv
 
 update : ℤ → ℤ → ℤ → ℤ → ℕ
 unfolding passedOver updateLacksRoom
-update mode n krow kcol = numberOf (updateRefusal mode (pos 4) n krow kcol 16 10 3 3 3)
+update mode n krow kcol = refusalNumber (updateRefusal mode (pos 4) n krow kcol 16 10 3 3 3)
 
 -- with nothing lent
 bare : ℤ → ℤ → ℤ → ℤ → ℕ
 unfolding passedOver updateLacksRoom
-bare mode n krow kcol = numberOf (updateRefusal mode (pos 4) n krow kcol 0 0 0 0 0)
+bare mode n krow kcol = refusalNumber (updateRefusal mode (pos 4) n krow kcol 0 0 0 0 0)
 
 lends : ℕ → ℕ → ℕ → ℕ → ℕ → ℕ
 unfolding passedOver updateLacksRoom
-lends l u y z w = numberOf (updateRefusal (pos 4) (pos 4) (pos 3) (pos 2) (pos 2) l u y z w)
+lends l u y z w = refusalNumber (updateRefusal (pos 4) (pos 4) (pos 3) (pos 2) (pos 2) l u y z w)
 
 pub record ZeroBasedOrder : Type 0 where
   push-accepted : update (pos 1) (pos 3) (negsuc 0) (pos 9) ≡ 0
@@ -88,18 +80,18 @@ pub record ZeroBasedOrder : Type 0 where
   short-y : lends 16 10 2 3 3 ≡ 12
   short-z : lends 16 10 3 2 3 ≡ 12
   short-w : lends 16 10 3 3 2 ≡ 12
-  product-accepted : numberOf (productRefusal (pos 4) (pos 3) 16 3 3) ≡ 0
-  product-empty-first : numberOf (productRefusal (pos 4) (pos 0) 0 0 0) ≡ 11
-  product-large : numberOf (productRefusal (pos 2) (pos 3) 16 3 3) ≡ 12
-  product-short-l : numberOf (productRefusal (pos 4) (pos 3) 15 3 3) ≡ 12
-  product-short-y : numberOf (productRefusal (pos 4) (pos 3) 16 2 3) ≡ 12
-  product-short-z : numberOf (productRefusal (pos 4) (pos 3) 16 3 2) ≡ 12
-  solve-accepted : numberOf (solveRefusal (pos 4) (pos 3) 10 3) ≡ 0
-  solve-stride-1 : numberOf (solveRefusal (negsuc 6) (pos 1) 1 1) ≡ 0
-  solve-negative-first : numberOf (solveRefusal (pos 4) (negsuc 0) 0 0) ≡ 11
-  solve-large : numberOf (solveRefusal (negsuc 6) (pos 2) 9 9) ≡ 12
-  solve-short-u : numberOf (solveRefusal (pos 4) (pos 3) 9 3) ≡ 12
-  solve-short-y : numberOf (solveRefusal (pos 4) (pos 3) 10 2) ≡ 12
+  product-accepted : refusalNumber (productRefusal (pos 4) (pos 3) 16 3 3) ≡ 0
+  product-empty-first : refusalNumber (productRefusal (pos 4) (pos 0) 0 0 0) ≡ 11
+  product-large : refusalNumber (productRefusal (pos 2) (pos 3) 16 3 3) ≡ 12
+  product-short-l : refusalNumber (productRefusal (pos 4) (pos 3) 15 3 3) ≡ 12
+  product-short-y : refusalNumber (productRefusal (pos 4) (pos 3) 16 2 3) ≡ 12
+  product-short-z : refusalNumber (productRefusal (pos 4) (pos 3) 16 3 2) ≡ 12
+  solve-accepted : refusalNumber (solveRefusal (pos 4) (pos 3) 10 3) ≡ 0
+  solve-stride-1 : refusalNumber (solveRefusal (negsuc 6) (pos 1) 1 1) ≡ 0
+  solve-negative-first : refusalNumber (solveRefusal (pos 4) (negsuc 0) 0 0) ≡ 11
+  solve-large : refusalNumber (solveRefusal (negsuc 6) (pos 2) 9 9) ≡ 12
+  solve-short-u : refusalNumber (solveRefusal (pos 4) (pos 3) 9 3) ≡ 12
+  solve-short-y : refusalNumber (solveRefusal (pos 4) (pos 3) 10 2) ≡ 12
 
 pub zeroBasedOrder : ZeroBasedOrder
 unfolding update bare lends passedOver updateLacksRoom productLacksRoom solveLacksRoom

@@ -5,7 +5,6 @@ use Prim.Native.Nat.{_-_, _≤_}
 use native.Mathlib.Omega.{arith}
 use lib.Ieee.{binary64}
 use Rattle.numbers.specs.NumberForm.{ieee}
-use Rattle.machine.specs.Products.{entry}
 use Rattle.ranges.specs.Written.{from, Written}
 use Rattle.ranges.proofs.Writing.{written-none, written-more, range-apart}
 use Rattle.ranges.proofs.fill.Statement.{statement}

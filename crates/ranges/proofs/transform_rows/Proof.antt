@@ -1,81 +1,63 @@
--- `transform_rows`: one pair a turn.
+-- `transform_rows`: one block a turn.
 use borrow.Author.Needs.{needs}
-use mathlib.Core.Path.{_≡_}
-use Prim.Native.Nat.{_-_, _≤_, _<_}
 use native.Mathlib.Omega.{arith}
-use lib.Ieee.{binary64}
-use Rattle.numbers.specs.NumberForm.{ieee}
-use lib.ListN.{length-set}
+use Rattle.ranges.proofs.Writing.{rows-none, rows-further}
 use Rattle.ranges.specs.Written.{RowsTransformed}
-use Rattle.ranges.proofs.Writing.{rows-none, rows-more}
+use Rattle.numbers.specs.NumberForm.{ieee}
+use lib.Ieee.{binary64}
+use Prim.Native.Nat.{_-_, _≤_}
+use mathlib.Core.Logic.{inl, inr, ⊎-elim}
+use mathlib.Core.Path.{_≡_}
 use Rattle.ranges.proofs.transform_rows.Statement.{statement}
 use Rattle.ranges.proofs.transform_rows.Tie as tie
 
 abbrev Inv-loop : tie.InvT-loop
-Inv-loop matrix₀ x y count transform k₀ matrix k = (k ≤ count) × RowsTransformed (ieee binary64) (transform .swap) (transform .multiplier) x y k matrix₀ matrix
+Inv-loop matrix₀ x y count transform done₀ matrix done = (done ≤ count) × RowsTransformed (ieee binary64) (transform .swap) (transform .multiplier) x y done matrix₀ matrix
 
 abbrev μ-loop : tie.MeasureT-loop
-μ-loop matrix₀ x y count transform k₀ matrix k = count - k
+μ-loop matrix₀ x y count transform done₀ matrix done = count - done
 
 loop-holds : tie.Need-loop-holds Inv-loop μ-loop
-loop-holds c = (search needs, rows-none (ieee binary64))
+loop-holds c = (omega arith, rows-none (ieee binary64))
 
-add-first : tie.Need-add-first Inv-loop μ-loop
-add-first c = omega arith
+sub-block-length : tie.Need-sub-block-length Inv-loop μ-loop
+sub-block-length c = omega arith
 
-mul-first : tie.Need-mul-first Inv-loop μ-loop
-mul-first c = omega arith
+block-length-requires : tie.Need-block-length-requires Inv-loop μ-loop
+block-length-requires c κs = search needs
 
-slice-read-first : tie.Need-slice-read-first Inv-loop μ-loop
-slice-read-first c = omega arith
+add-transform-block : tie.Need-add-transform-block Inv-loop μ-loop
+add-transform-block c = omega arith
 
-add-second : tie.Need-add-second Inv-loop μ-loop
-add-second c = omega arith
+add-transform-block-2 : tie.Need-add-transform-block-2 Inv-loop μ-loop
+add-transform-block-2 c = omega arith
 
-mul-second : tie.Need-mul-second Inv-loop μ-loop
-mul-second c = omega arith
+transform-block-requires : tie.Need-transform-block-requires Inv-loop μ-loop
+transform-block-requires c κs =
+    let start = c .before .before .before .before .before in
+    let inv = c .before .before .before .loop .inv in
+    let long = inv .1 .kept .long in
+    let r = c .before .block-length .ensures .0 in
+    (⊎-elim (λ h. inl (omega arith)) (λ h. inr (omega arith)) (start .pre .0), (omega arith, omega arith))
 
-slice-read-second : tie.Need-slice-read-second Inv-loop μ-loop
-slice-read-second c = omega arith
-
-apply-pair-requires : tie.Need-apply-pair-requires Inv-loop μ-loop
-apply-pair-requires c κs = search needs
-
-add-matrix : tie.Need-add-matrix Inv-loop μ-loop
-add-matrix c = omega arith
-
-mul-matrix : tie.Need-mul-matrix Inv-loop μ-loop
-mul-matrix c = omega arith
-
-slice-write-matrix : tie.Need-slice-write-matrix Inv-loop μ-loop
-slice-write-matrix c = omega arith
-
-add-matrix-2 : tie.Need-add-matrix-2 Inv-loop μ-loop
-add-matrix-2 c = omega arith
-
-mul-matrix-2 : tie.Need-mul-matrix-2 Inv-loop μ-loop
-mul-matrix-2 c = omega arith
-
-slice-write-matrix-2 : tie.Need-slice-write-matrix-2 Inv-loop μ-loop
-slice-write-matrix-2 c = simp length-set (omega arith)
-
-add-k : tie.Need-add-k Inv-loop μ-loop
-add-k c = omega arith
+add-done : tie.Need-add-done Inv-loop μ-loop
+add-done c = omega arith
 
 loop-less : tie.Need-loop-less Inv-loop μ-loop
-loop-less c = omega arith
+loop-less c = let r = c .before .before .before .before .block-length .ensures .1 (omega arith) in omega arith
 
 loop-again : tie.Need-loop-again Inv-loop μ-loop
 loop-again c =
     let start = c .before .before .before .before .before .before .before .before in
-    let loop = c .before .before .before .before .before .before .loop in
-    let h : loop .k < start .args .count = omega arith in (omega arith, rows-more (ieee binary64) (start .pre .0) h (omega arith) (omega arith) (loop .inv .1) (c .apply-pair .ensures .0) (c .apply-pair .ensures .1))
+    let inv = c .before .before .before .before .before .before .loop .inv in
+    let r = c .before .before .before .before .block-length .ensures .0 in
+    (omega arith, rows-further (ieee binary64) (start .args .x) (start .args .y) (start .args .count) (c .before .before .before .before .before .before .loop .done) (start .pre .0) (omega arith) (inv .1) (c .before .before .transform-block .ensures))
 
 same-length : tie.Need-same-length Inv-loop μ-loop
 same-length c = c .before .loop .inv .1 .kept .long
 
 returns : tie.Need-returns Inv-loop μ-loop
-returns c = let e : c .before .loop .k ≡ c .before .before .before .args .count = omega arith in rw e at (c .before .loop .inv .1)
+returns c = let e : c .before .loop .done ≡ c .before .before .before .args .count = omega arith in rw e at (c .before .loop .inv .1)
 
 pub transform-rows-spec : {M : Type 1} → statement M
 transform-rows-spec =
@@ -84,20 +66,12 @@ transform-rows-spec =
     Inv-loop
     μ-loop
     loop-holds
-    add-first
-    mul-first
-    slice-read-first
-    add-second
-    mul-second
-    slice-read-second
-    apply-pair-requires
-    add-matrix
-    mul-matrix
-    slice-write-matrix
-    add-matrix-2
-    mul-matrix-2
-    slice-write-matrix-2
-    add-k
+    sub-block-length
+    block-length-requires
+    add-transform-block
+    add-transform-block-2
+    transform-block-requires
+    add-done
     loop-less
     loop-again
     same-length

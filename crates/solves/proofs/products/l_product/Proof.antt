@@ -1,70 +1,23 @@
--- `l_product`: one entry a turn.
-use mathlib.Core.Path.{_≡_}
-use Prim.Native.Nat.{_-_, _≤_}
-use native.Mathlib.Omega.{arith}
-use lib.Ieee.{binary64}
-use denote.Ref.{now}
-use Rattle.numbers.specs.NumberForm.{ieee}
-use Rattle.machine.specs.Products.{entry, product}
+-- `l_product`: from the start of `input`.
+use Rattle.solves.proofs.InPlace.{product-from-0}
 use Rattle.storage.specs.Views.{viewL}
-use Rattle.storage.proofs.Places.{row-before, row-fits}
-use Rattle.ranges.specs.Written.{Written}
-use Rattle.ranges.proofs.Writing.{apart, written-none, written-more}
-use Rattle.solves.proofs.Vectors.{row-product}
+use Rattle.machine.proofs.Products.{product-same}
+use Rattle.machine.specs.Products.{product}
+use Rattle.numbers.specs.NumberForm.{ieee}
+use denote.Ref.{now}
+use lib.Ieee.{binary64}
+use borrow.Author.Needs.{needs}
 use Rattle.solves.proofs.products.l_product.Statement.{statement}
 use Rattle.solves.proofs.products.l_product.Tie as tie
 
-abbrev Inv-loop : tie.InvT-loop
-Inv-loop n stride l input output₀ i₀ output i = (i ≤ n) × Written (ieee binary64) (λ k. k) i (product (ieee binary64) n (viewL (ieee binary64) stride l) (entry (ieee binary64) input)) output₀ output
+l-product-from-requires : tie.Need-l-product-from-requires
+l-product-from-requires c κs = search needs
 
-abbrev μ-loop : tie.MeasureT-loop
-μ-loop n stride l input output₀ i₀ output i = n - i
+same-length : tie.Need-same-length
+same-length c = search needs
 
-loop-holds : tie.Need-loop-holds Inv-loop μ-loop
-loop-holds c = (omega arith, written-none (ieee binary64))
-
-mul-dot : tie.Need-mul-dot Inv-loop μ-loop
-mul-dot c = omega (arith, row-fits (c .before .before .before .before .before .args .stride) (c .before .loop .i) (omega arith) (omega arith))
-
-dot-requires : tie.Need-dot-requires Inv-loop μ-loop
-dot-requires c κs =
-    let start = c .before .before .before .before .before in
-    let h = row-before (start .args .stride) (c .before .loop .i) (start .args .stride) (omega arith) in (omega arith, omega arith)
-
-mul-output : tie.Need-mul-output Inv-loop μ-loop
-mul-output c = omega arith
-
-slice-write-output : tie.Need-slice-write-output Inv-loop μ-loop
-slice-write-output c = omega arith
-
-add-i : tie.Need-add-i Inv-loop μ-loop
-add-i c = omega arith
-
-loop-less : tie.Need-loop-less Inv-loop μ-loop
-loop-less c = omega arith
-
-loop-again : tie.Need-loop-again Inv-loop μ-loop
-loop-again c = let a = c .before .before .before .before .before .before .args in (omega arith, written-more (ieee binary64) (apart (ieee binary64) _) (c .before .before .loop .inv .1) (omega arith) (row-product (ieee binary64) (a .stride) (a .n) (c .before .before .loop .i) (now (a .l)) (now (a .input)) (c .dot .ensures)))
-
-same-length : tie.Need-same-length Inv-loop μ-loop
-same-length c = c .before .loop .inv .1 .kept .long
-
-returns : tie.Need-returns Inv-loop μ-loop
-returns c = let e : c .before .loop .i ≡ c .before .before .before .before .before .args .n = omega arith in rw e at (c .before .loop .inv .1)
+returns : tie.Need-returns
+returns c = let a = c .before .before .before .before .before .before .before .args in product-from-0 (ieee binary64) (a .n) (product (ieee binary64) (a .n)) (product-same (ieee binary64) (a .n)) (viewL (ieee binary64) (a .stride) (now (a .l))) (now (a .input)) (c .before .before .l-product-from .ensures)
 
 pub l-product-spec : {M : Type 1} → statement M
-l-product-spec =
-    tie.close
-    (tie.spec
-    Inv-loop
-    μ-loop
-    loop-holds
-    mul-dot
-    dot-requires
-    mul-output
-    slice-write-output
-    add-i
-    loop-less
-    loop-again
-    same-length
-    returns)
+l-product-spec = tie.close (tie.spec l-product-from-requires same-length returns)

@@ -1,80 +1,24 @@
--- `l_product_transposed`: one row of L a turn.
-use mathlib.Core.Path.{_≡_, refl, _∙_}
-use Prim.Native.Nat.{_-_, _≤_}
-use native.Mathlib.Omega.{arith}
-use lib.Ieee.{binary64}
-use denote.Ref.{now}
+-- `l_product_transposed`: from the start of `input`.
+use Rattle.solves.proofs.InPlace.{product-from-0}
+use Rattle.storage.specs.Views.{viewL}
+use Rattle.machine.proofs.Products.{product-transposed-same}
+use Rattle.machine.specs.Products.{productTransposed}
 use Rattle.numbers.specs.NumberForm.{ieee}
-use Rattle.storage.proofs.Places.{row-before, row-fits}
-use Rattle.storage.proofs.Kept.{kept-all}
-use Rattle.ranges.specs.Written.{Written}
-use Rattle.ranges.proofs.Writing.{sum-none}
-use Rattle.solves.proofs.Vectors.{written-over, written-from-0, rowSums, row-sums-more, row-sums-all}
+use denote.Ref.{now}
+use lib.Ieee.{binary64}
+use borrow.Author.Needs.{needs}
 use Rattle.solves.proofs.products.l_product_transposed.Statement.{statement}
 use Rattle.solves.proofs.products.l_product_transposed.Tie as tie
 
-abbrev Inv-loop : tie.InvT-loop
-Inv-loop n stride l input output₀ j₀ output j = (j ≤ n) × Written (ieee binary64) (λ k. k) n (rowSums (ieee binary64) stride j l input) output₀ output
+l-product-transposed-from-requires : tie.Need-l-product-transposed-from-requires
+l-product-transposed-from-requires c κs = search needs
 
-abbrev μ-loop : tie.MeasureT-loop
-μ-loop n stride l input output₀ j₀ output j = n - j
+same-length : tie.Need-same-length
+same-length c = search needs
 
-fill-requires : tie.Need-fill-requires Inv-loop μ-loop
-fill-requires c κs = omega arith
-
-loop-holds : tie.Need-loop-holds Inv-loop μ-loop
-loop-holds c = let f = written-from-0 (ieee binary64) (c .before .before .fill .ensures) in (omega arith, record { value = λ k h. f .value k h ∙ sum-none (ieee binary64) _; kept = kept-all (ieee binary64) })
-
-mul-add-multiple : tie.Need-mul-add-multiple Inv-loop μ-loop
-mul-add-multiple c = omega (arith, row-fits (c .before .before .before .before .before .before .before .before .before .before .args .stride) (c .before .before .loop .j) (omega arith) (omega arith))
-
-mul-add-multiple-2 : tie.Need-mul-add-multiple-2 Inv-loop μ-loop
-mul-add-multiple-2 c = omega arith
-
-shared-slice-read-add-multiple : tie.Need-shared-slice-read-add-multiple Inv-loop μ-loop
-shared-slice-read-add-multiple c = omega arith
-
-add-multiple-requires : tie.Need-add-multiple-requires Inv-loop μ-loop
-add-multiple-requires c κs =
-    let start = c .before .before .before .before .before .before .before .before .before .before .before in
-    let loop = c .before .before .before .loop in
-    let h = row-before (start .args .stride) (loop .j) (start .args .stride) (omega arith) in let k = loop .inv .1 .kept .long in (omega arith, omega arith)
-
-add-j : tie.Need-add-j Inv-loop μ-loop
-add-j c = omega arith
-
-loop-less : tie.Need-loop-less Inv-loop μ-loop
-loop-less c = omega arith
-
-loop-again : tie.Need-loop-again Inv-loop μ-loop
-loop-again c =
-    let loop = c .before .before .before .before .before .before .loop in
-    let a = c .before .before .before .before .before .before .before .before .before .before .before .before .before .before .args in (omega arith, row-sums-more (ieee binary64) (a .stride) (a .n) (loop .j) (now (a .l)) (now (a .input)) refl (loop .inv .1) (c .before .before .add-multiple .ensures))
-
-same-length : tie.Need-same-length Inv-loop μ-loop
-same-length c = c .before .loop .inv .1 .kept .long ∙ c .before .before .before .before .fill .ensures .kept .long
-
-returns : tie.Need-returns Inv-loop μ-loop
-returns c =
-    let a = c .before .before .before .before .before .before .before .before .before .args in
-    let e : c .before .loop .j ≡ a .n = omega arith in
-    row-sums-all (ieee binary64) (a .stride) (a .n) (now (a .l)) (now (a .input))
-    (written-over (ieee binary64) (written-from-0 (ieee binary64) (c .before .before .before .before .fill .ensures)) (rw e at (c .before .loop .inv .1)))
+returns : tie.Need-returns
+returns c = let a = c .before .before .before .before .before .before .before .args in product-from-0 (ieee binary64) (a .n) (productTransposed (ieee binary64) (a .n)) (product-transposed-same (ieee binary64) (a .n)) (viewL (ieee binary64) (a .stride) (now (a .l))) (now (a .input)) (c .before .before .l-product-transposed-from .ensures)
 
 pub l-product-transposed-spec : {M : Type 1} → statement M
 l-product-transposed-spec =
-    tie.close
-    (tie.spec
-    Inv-loop
-    μ-loop
-    fill-requires
-    loop-holds
-    mul-add-multiple
-    mul-add-multiple-2
-    shared-slice-read-add-multiple
-    add-multiple-requires
-    add-j
-    loop-less
-    loop-again
-    same-length
-    returns)
+    tie.close (tie.spec l-product-transposed-from-requires same-length returns)

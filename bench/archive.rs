@@ -1,0 +1,138 @@
+//! The archive's side.
+
+use crate::inputs::Case;
+use crate::sides::Factors;
+
+#[rustfmt::skip]
+extern "C" {
+    fn lumod_push(
+        n: *mut usize, c: usize, l: *mut f64, l_len: usize, u: *mut f64, u_len: usize,
+        y: *mut f64, y_len: usize, z: *mut f64, z_len: usize, w: *mut f64, w_len: usize,
+        row: *const f64, row_len: usize, column: *const f64, column_len: usize, diagonal: f64,
+    ) -> u32;
+    fn lumod_replace_row(
+        n: usize, c: usize, l: *mut f64, l_len: usize, u: *mut f64, u_len: usize,
+        y: *mut f64, y_len: usize, z: *mut f64, z_len: usize, w: *mut f64, w_len: usize,
+        row: usize, values: *const f64, values_len: usize,
+    ) -> u32;
+    fn lumod_replace_column(
+        n: usize, c: usize, l: *mut f64, l_len: usize, u: *mut f64, u_len: usize,
+        y: *mut f64, y_len: usize, z: *mut f64, z_len: usize, w: *mut f64, w_len: usize,
+        column: usize, values: *const f64, values_len: usize,
+    ) -> u32;
+    fn lumod_remove(
+        n: *mut usize, c: usize, l: *mut f64, l_len: usize, u: *mut f64, u_len: usize,
+        y: *mut f64, y_len: usize, z: *mut f64, z_len: usize, w: *mut f64, w_len: usize,
+        row: usize, column: usize, moved_row: *mut usize, moved_column: *mut usize,
+    ) -> u32;
+    fn lumod_solve(
+        n: usize, c: usize, l: *mut f64, l_len: usize, u: *const f64, u_len: usize,
+        rhs: *mut f64, rhs_len: usize, index: *mut usize,
+    ) -> u32;
+    fn lumod_solve_transpose(
+        n: usize, c: usize, l: *mut f64, l_len: usize, u: *const f64, u_len: usize,
+        rhs: *mut f64, rhs_len: usize, index: *mut usize,
+    ) -> u32;
+}
+
+/// Storage as it is lent to each call.
+pub struct Storage<'a> {
+    n: usize,
+    capacity: usize,
+    l: &'a mut [f64],
+    u: &'a mut [f64],
+}
+
+pub struct Workspaces<'a> {
+    y: &'a mut [f64],
+    z: &'a mut [f64],
+    w: &'a mut [f64],
+}
+
+// SAFETY, of all calls: every pointer comes with the length of its own slice or leads to a number
+// of its own, and the slices are apart.
+#[rustfmt::skip]
+impl<'a> Factors<'a> for Storage<'a> {
+    type Workspace = Workspaces<'a>;
+
+    fn adopt(n: usize, capacity: usize, l: &'a mut [f64], u: &'a mut [f64]) -> Self {
+        Self { n, capacity, l, u }
+    }
+
+    fn workspace(y: &'a mut [f64], z: &'a mut [f64], w: &'a mut [f64]) -> Self::Workspace {
+        Workspaces { y, z, w }
+    }
+
+    fn push(&mut self, case: &Case, workspace: &mut Self::Workspace) -> bool {
+        let Self { n, capacity, l, u } = self;
+        let Workspaces { y, z, w } = workspace;
+        let (row, column) = (&case.row_data, &case.column_data);
+        0 == unsafe {
+            lumod_push(
+                n, *capacity, l.as_mut_ptr(), l.len(), u.as_mut_ptr(), u.len(),
+                y.as_mut_ptr(), y.len(), z.as_mut_ptr(), z.len(), w.as_mut_ptr(), w.len(),
+                row.as_ptr(), row.len(), column.as_ptr(), column.len(), case.diagonal,
+            )
+        }
+    }
+
+    fn replace_row(&mut self, case: &Case, workspace: &mut Self::Workspace) -> bool {
+        let Self { n, capacity, l, u } = self;
+        let Workspaces { y, z, w } = workspace;
+        0 == unsafe {
+            lumod_replace_row(
+                *n, *capacity, l.as_mut_ptr(), l.len(), u.as_mut_ptr(), u.len(),
+                y.as_mut_ptr(), y.len(), z.as_mut_ptr(), z.len(), w.as_mut_ptr(), w.len(),
+                case.row, case.row_data.as_ptr(), case.row_data.len(),
+            )
+        }
+    }
+
+    fn replace_column(&mut self, case: &Case, workspace: &mut Self::Workspace) -> bool {
+        let Self { n, capacity, l, u } = self;
+        let Workspaces { y, z, w } = workspace;
+        0 == unsafe {
+            lumod_replace_column(
+                *n, *capacity, l.as_mut_ptr(), l.len(), u.as_mut_ptr(), u.len(),
+                y.as_mut_ptr(), y.len(), z.as_mut_ptr(), z.len(), w.as_mut_ptr(), w.len(),
+                case.column, case.column_data.as_ptr(), case.column_data.len(),
+            )
+        }
+    }
+
+    fn remove(&mut self, case: &Case, workspace: &mut Self::Workspace) -> bool {
+        let Self { n, capacity, l, u } = self;
+        let Workspaces { y, z, w } = workspace;
+        let (mut moved_row, mut moved_column) = (0, 0);
+        let number = unsafe {
+            lumod_remove(
+                n, *capacity, l.as_mut_ptr(), l.len(), u.as_mut_ptr(), u.len(),
+                y.as_mut_ptr(), y.len(), z.as_mut_ptr(), z.len(), w.as_mut_ptr(), w.len(),
+                case.row, case.column, &mut moved_row, &mut moved_column,
+            )
+        };
+        let expected_row = case.removal.moved_row.map_or(usize::MAX, |row| row.0);
+        let expected_column = case.removal.moved_column.map_or(usize::MAX, |column| column.0);
+        number == 0 && moved_row == expected_row && moved_column == expected_column
+    }
+
+    fn solve(&mut self, rhs: &mut [f64]) -> bool {
+        let Self { n, capacity, l, u } = self;
+        0 == unsafe {
+            lumod_solve(
+                *n, *capacity, l.as_mut_ptr(), l.len(), u.as_ptr(), u.len(),
+                rhs.as_mut_ptr(), rhs.len(), &mut 0,
+            )
+        }
+    }
+
+    fn solve_transpose(&mut self, rhs: &mut [f64]) -> bool {
+        let Self { n, capacity, l, u } = self;
+        0 == unsafe {
+            lumod_solve_transpose(
+                *n, *capacity, l.as_mut_ptr(), l.len(), u.as_ptr(), u.len(),
+                rhs.as_mut_ptr(), rhs.len(), &mut 0,
+            )
+        }
+    }
+}

@@ -1,0 +1,73 @@
+//! Times the managed calls of the archive and of the published Rust on the same inputs.
+//!
+//! Argument: the seed of the inputs. Exit status: 0 measured, 1 the two sides differ, else it
+//! broke off.
+
+mod archive;
+mod batch;
+mod check;
+mod inputs;
+mod measure;
+#[allow(dead_code)]
+#[path = "../tests/differential/random.rs"]
+mod random;
+mod sides;
+
+use std::process::ExitCode;
+
+use inputs::{Inputs, CALLS};
+use random::Random;
+
+const DIMENSIONS: [usize; 7] = [1, 3, 10, 30, 100, 300, 1000];
+
+fn main() -> ExitCode {
+    let words: Vec<String> = std::env::args().skip(1).collect();
+    let [word] = &words[..] else {
+        return usage();
+    };
+    let Ok(seed) = word.parse() else {
+        return usage();
+    };
+    let mut random = Random::new(seed);
+    let all: Vec<Inputs> = DIMENSIONS
+        .iter()
+        .map(|&n| Inputs::new(n, &mut random))
+        .collect();
+    if let Err(what) = check::check_all(&all) {
+        println!("the two sides differ: {what}");
+        return ExitCode::from(1);
+    }
+    print_table(&all);
+    ExitCode::SUCCESS
+}
+
+fn usage() -> ExitCode {
+    eprintln!("usage: bench SEED");
+    ExitCode::from(2)
+}
+
+fn print_table(all: &[Inputs]) {
+    println!("| call | n | Rust, ns | archive, ns | Rust / archive |");
+    println!("|---|---:|---:|---:|---:|");
+    for call in CALLS {
+        for inputs in all {
+            let [rust, archive] = measure::measure(inputs, call);
+            let ratio = rust / archive;
+            let (name, n) = (call.name(), inputs.n);
+            println!(
+                "| {name} | {n} | {} | {} | {ratio:.2} |",
+                nanoseconds(rust),
+                nanoseconds(archive)
+            );
+        }
+    }
+}
+
+/// A tenth of a nanosecond shows only where there are few.
+fn nanoseconds(value: f64) -> String {
+    if value < 100.0 {
+        format!("{value:.1}")
+    } else {
+        format!("{value:.0}")
+    }
+}

@@ -1,0 +1,79 @@
+// The answers of the managed calls as a C host gets them: numbers.
+ghost use mathlib.Core.Path.{_≡_};
+ghost use Rattle.machine.specs.Calls.{numberOf};
+ghost use Rattle.refusals.specs.Refusal.{refusalOf};
+ghost use Rattle.api.specs.Answers.{answerOf, movedRowOf, movedColumnOf};
+ghost use Rattle.answers.specs.Numbers.{indexAfter, movedNumber};
+use api::Answer;
+use api::MovedColumn;
+use api::MovedRow;
+use refusals::Refusal;
+
+// Document 01's number of a refusal.
+pub fn refusal_number(refusal: Refusal) -> u32
+    ensures { λ r. ⌜ r ≡ numberOf (refusalOf refusal) ⌝ }
+{
+    match refusal {
+        Refusal::InvalidDimension => 1,
+        Refusal::SizeOverflow => 2,
+        Refusal::InsufficientStorage => 3,
+        Refusal::CapacityExceeded => 4,
+        Refusal::RowOutOfBounds => 5,
+        Refusal::ColumnOutOfBounds => 6,
+        Refusal::LengthMismatch => 7,
+        Refusal::InsufficientWorkspace => 8,
+        Refusal::Singular(_) => 9,
+        Refusal::NonFiniteDiagonal(_) => 10,
+    }
+}
+
+// Document 01's number of an answer.
+pub fn answer_number(answer: Answer) -> u32
+    ensures { λ r. ⌜ r ≡ numberOf (answerOf answer) ⌝ }
+{
+    match answer {
+        Answer::Done => 0,
+        Answer::Refused(refusal) => refusal_number(refusal),
+    }
+}
+
+// The index that a refused solve names, or else `old`.
+pub fn named_index(answer: Answer, old: usize) -> usize
+    ensures { λ r. ⌜ r ≡ indexAfter (answerOf answer) old ⌝ }
+{
+    let Answer::Refused(refusal) = answer else {
+        return old;
+    };
+    match refusal {
+        Refusal::InvalidDimension => old,
+        Refusal::SizeOverflow => old,
+        Refusal::InsufficientStorage => old,
+        Refusal::CapacityExceeded => old,
+        Refusal::RowOutOfBounds => old,
+        Refusal::ColumnOutOfBounds => old,
+        Refusal::LengthMismatch => old,
+        Refusal::InsufficientWorkspace => old,
+        Refusal::Singular(i) => i,
+        Refusal::NonFiniteDiagonal(i) => i,
+    }
+}
+
+// The moved row, or SIZE_MAX where nothing moved.
+pub fn row_number(moved: MovedRow) -> usize
+    ensures { λ r. ⌜ r ≡ movedNumber (movedRowOf moved) ⌝ }
+{
+    match moved {
+        MovedRow::Moved(row) => row.0,
+        MovedRow::Nothing => 0xFFFF_FFFF_FFFF_FFFF,
+    }
+}
+
+// The same of columns.
+pub fn column_number(moved: MovedColumn) -> usize
+    ensures { λ r. ⌜ r ≡ movedNumber (movedColumnOf moved) ⌝ }
+{
+    match moved {
+        MovedColumn::Moved(column) => column.0,
+        MovedColumn::Nothing => 0xFFFF_FFFF_FFFF_FFFF,
+    }
+}

@@ -1,0 +1,75 @@
+-- From the outcome of a managed call to what it returns to a C host, which keeps the capacity, and the dimension where no call changes it.
+use mathlib.Core.Path.{_≡_, refl, ap, subst}
+use mathlib.Core.List.{List}
+use mathlib.Core.Option.{Option, none, some}
+use Prim.Native.Nat.{ℕ}
+use lib.Ieee.{Float, binary64}
+use Rattle.numbers.specs.NumberForm.{ieee}
+use Rattle.numbers.specs.Tolerances.{managedEpsilon, managedTiny}
+use Rattle.machine.specs.Calls.{Call, replaceRow, replaceColumn, solve, solveTransposed, Answer, numberOf, refusalNumber}
+use Rattle.machine.specs.Machine.{accepted}
+use Rattle.managed.specs.Instance.{Instance, instance, view}
+use Rattle.managed.proofs.Outcomes.{dimension-stays}
+use Rattle.api.specs.Answers.{AdoptionAnswer, adopted, notAdopted, adoptedUnder}
+use Rattle.api.specs.Demands.{ManagedOutcome}
+use Rattle.refusals.specs.declared.Refusal.{Refusal}
+use Rattle.refusals.specs.declared.Refusal.the-variants.{InvalidDimension, SizeOverflow, InsufficientStorage, CapacityExceeded, RowOutOfBounds, ColumnOutOfBounds, LengthMismatch, InsufficientWorkspace, Singular, NonFiniteDiagonal}
+use Rattle.refusals.specs.Refusal.{refusalOf}
+use Rattle.lumod_c.specs.Managed.{movedRowAfter, movedColumnAfter, Returned}
+
+-- a call that keeps the dimension
+abbrev Stays : Call Float → Instance Float → Type 0
+Stays c s = accepted (ieee binary64) (managedEpsilon binary64) (managedTiny binary64) (view (ieee binary64) s) c .after .n ≡ s .n
+
+pub row-stays : (r : ℕ) (values : List Float) (s : Instance Float) → Stays (replaceRow r values) s
+unfolding accepted
+row-stays r values s = refl
+
+pub column-stays : (k : ℕ) (values : List Float) (s : Instance Float) → Stays (replaceColumn k values) s
+unfolding accepted
+column-stays k values s = refl
+
+pub solve-stays : (rhs : List Float) (s : Instance Float) → Stays (solve rhs) s
+unfolding accepted
+solve-stays rhs s = refl
+
+pub transposed-stays : (rhs : List Float) (s : Instance Float) → Stays (solveTransposed rhs) s
+unfolding accepted
+transposed-stays rhs s = refl
+
+module _ (c : Call Float) (s : Instance Float) {n c′ number : ℕ} {l u y z w b : List Float} {a : Answer} {Out : Answer → Type 0}
+    (o : ManagedOutcome c s (instance n c′ l u y z w) a b) (is-number : number ≡ numberOf a) (out : Out a) where
+  pub returned : Returned c s (instance n (s .c) l u y z w) b Out number
+  returned = record {
+    answer = a;
+    outcome = subst (λ (k : ℕ). ManagedOutcome c s (instance n k l u y z w) a b) (o .capacity) o;
+    is-number = is-number;
+    out = out;
+  }
+
+  pub returned-staying : Stays c s → Returned c s (instance (s .n) (s .c) l u y z w) b Out number
+  returned-staying e =
+      subst (λ (k : ℕ). Returned c s (instance k (s .c) l u y z w) b Out number)
+      (dimension-stays (ieee binary64) (managedEpsilon binary64) (managedTiny binary64) e o) returned
+
+-- the number of an adoption
+abbrev pub adoptionNumber : AdoptionAnswer → ℕ
+adoptionNumber (adopted n c) = 0
+adoptionNumber (notAdopted a) = numberOf a
+
+pub adoption-number : {p : AdoptionAnswer} (o : Option Answer) (n c : ℕ) → p ≡ adoptedUnder o n c → adoptionNumber p ≡ refusalNumber o
+adoption-number none n c e = ap adoptionNumber e
+adoption-number (some a) n c e = ap adoptionNumber e
+
+-- no refusal reports what moved
+pub refusal-moves-nothing : (r : Refusal) (row column : ℕ) → (row ≡ movedRowAfter (refusalOf r) row) × (column ≡ movedColumnAfter (refusalOf r) column)
+refusal-moves-nothing InvalidDimension row column = (refl, refl)
+refusal-moves-nothing SizeOverflow row column = (refl, refl)
+refusal-moves-nothing InsufficientStorage row column = (refl, refl)
+refusal-moves-nothing CapacityExceeded row column = (refl, refl)
+refusal-moves-nothing RowOutOfBounds row column = (refl, refl)
+refusal-moves-nothing ColumnOutOfBounds row column = (refl, refl)
+refusal-moves-nothing LengthMismatch row column = (refl, refl)
+refusal-moves-nothing InsufficientWorkspace row column = (refl, refl)
+refusal-moves-nothing (Singular i) row column = (refl, refl)
+refusal-moves-nothing (NonFiniteDiagonal i) row column = (refl, refl)

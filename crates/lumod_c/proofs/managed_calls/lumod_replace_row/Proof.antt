@@ -1,0 +1,48 @@
+-- `lumod_replace_row`: the outcome of `LuMod::replace_row`, and its number.
+use Rattle.lumod_c.proofs.Returns.{returned-staying, row-stays}
+use Rattle.managed.specs.Instance.{instance}
+use Rattle.machine.specs.Calls as calls
+use denote.Ref.{now}
+use borrow.Author.Needs.{needs}
+use Rattle.lumod_c.proofs.managed_calls.lumod_replace_row.Statement.{statement}
+use Rattle.lumod_c.proofs.managed_calls.lumod_replace_row.Tie as tie
+
+replace-row-requires : tie.Need-replace-row-requires
+replace-row-requires c κs = search needs
+
+answer-number-requires : tie.Need-answer-number-requires
+answer-number-requires c κs = search needs
+
+same-length : tie.Need-same-length
+same-length c = search needs
+
+same-length-2 : tie.Need-same-length-2
+same-length-2 c = search needs
+
+same-length-3 : tie.Need-same-length-3
+same-length-3 c = search needs
+
+same-length-4 : tie.Need-same-length-4
+same-length-4 c = search needs
+
+same-length-5 : tie.Need-same-length-5
+same-length-5 c = search needs
+
+returns : tie.Need-returns
+returns c =
+    let a = c .before .before .before .before .before .before .before .before .before .before .before .before .before .before .before .before .before .before .before .before .before .before .before .args in
+    let s = instance (a .n) (a .c) (now (a .l)) (now (a .u)) (now (a .y)) (now (a .z)) (now (a .w)) in
+    returned-staying (calls.replaceRow (a .row) (now (a .values))) s (c .before .before .before .before .before .before .before .before .before .before .before .replace-row .ensures) (c .answer-number .ensures) tt (row-stays (a .row) (now (a .values)) s)
+
+pub lumod-replace-row-spec : {M : Type 1} → statement M
+lumod-replace-row-spec =
+    tie.close
+    (tie.spec
+    replace-row-requires
+    answer-number-requires
+    same-length
+    same-length-2
+    same-length-3
+    same-length-4
+    same-length-5
+    returns)

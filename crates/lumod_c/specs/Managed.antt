@@ -1,0 +1,46 @@
+-- What the managed calls return to a C host: document 01's number, the outcome, and what each out-parameter holds afterwards.
+use mathlib.Core.Path.{_≡_}
+use mathlib.Core.Bool.{cond}
+use mathlib.Core.List.{List}
+use Prim.Native.Nat.{ℕ}
+use lib.Ieee.{Float}
+use Rattle.machine.specs.Calls.{Call, Answer, done, moved, refused, refusedAt, numberOf}
+use Rattle.storage.specs.Lengths as storage
+use Rattle.managed.specs.Instance.{Instance}
+use Rattle.answers.specs.Numbers.{movedNumber}
+use Rattle.api.specs.Answers.{ReadyAnswer, answered, notAnswered}
+use Rattle.api.specs.Demands.{ManagedOutcome}
+
+-- the moved row and the moved column, which are written where nothing was refused
+abbrev pub movedRowAfter : Answer → ℕ → ℕ
+movedRowAfter done old = old
+movedRowAfter (moved r k) old = movedNumber r
+movedRowAfter (refused number) old = old
+movedRowAfter (refusedAt number i) old = old
+
+abbrev pub movedColumnAfter : Answer → ℕ → ℕ
+movedColumnAfter done old = old
+movedColumnAfter (moved r k) old = movedNumber k
+movedColumnAfter (refused number) old = old
+movedColumnAfter (refusedAt number i) old = old
+
+-- A call returns the number of its answer; `Out` says what that answer leaves in the out-parameters.
+pub record Returned (c : Call Float) (s t : Instance Float) (b : List Float) (Out : Answer → Type 0) (number : ℕ) : Type 0 where
+  pub answer : Answer
+  pub outcome : ManagedOutcome c s t answer b
+  pub is-number : number ≡ numberOf answer
+  pub out : Out answer
+
+-- the calls without an out-parameter of their own
+abbrev pub NoOut : Answer → Type 0
+NoOut a = Unit {0}
+
+-- the lengths are written where nothing was refused: of L's and U's, before and afterwards
+abbrev pub LengthsReturned : storage.LengthsAnswer → ℕ → ℕ → ℕ → ℕ → ℕ → Type 0
+LengthsReturned (storage.lengths a b) l u l′ u′ number = (number ≡ 0) × (l′ ≡ a) × (u′ ≡ b)
+LengthsReturned (storage.refused k) l u l′ u′ number = (number ≡ k) × (l′ ≡ l) × (u′ ≡ u)
+
+-- 1 or 0 is written where nothing was refused
+abbrev pub ReadyReturned : ReadyAnswer → ℕ → ℕ → ℕ → Type 0
+ReadyReturned (answered yes-or-no) ready ready′ number = (number ≡ 0) × (ready′ ≡ cond yes-or-no 1 0)
+ReadyReturned (notAnswered a) ready ready′ number = (number ≡ numberOf a) × (ready′ ≡ ready)

@@ -1,0 +1,54 @@
+-- `refusals`: its loop ends.
+use borrow.Author.Needs.{needs}
+use Prim.Native.Nat.{_-_}
+use Rattle.replay.proofs.counts.refusals.Statement.{statement}
+use Rattle.replay.proofs.counts.refusals.Tie as tie
+
+abbrev Inv-loop : tie.InvT-loop
+Inv-loop counts i₀ t3 i = Unit {0}
+
+abbrev μ-loop : tie.MeasureT-loop
+μ-loop counts i₀ t3 i = 11 - i
+
+loop-holds : tie.Need-loop-holds Inv-loop μ-loop
+loop-holds c = search needs
+
+slice-aggregate-text : tie.Need-slice-aggregate-text Inv-loop μ-loop
+slice-aggregate-text c = search needs
+
+text-requires : tie.Need-text-requires Inv-loop μ-loop
+text-requires c κs = search needs
+
+counted-requires : tie.Need-counted-requires Inv-loop μ-loop
+counted-requires c κs = search needs
+
+number-requires : tie.Need-number-requires Inv-loop μ-loop
+number-requires c κs = search needs
+
+add-i : tie.Need-add-i Inv-loop μ-loop
+add-i c = search needs
+
+loop-less : tie.Need-loop-less Inv-loop μ-loop
+loop-less c = search needs
+
+loop-again : tie.Need-loop-again Inv-loop μ-loop
+loop-again c = search needs
+
+returns : tie.Need-returns Inv-loop μ-loop
+returns c = search needs
+
+pub refusals-spec : {M : Type 1} → statement M
+refusals-spec =
+    tie.close
+    (tie.spec
+    Inv-loop
+    μ-loop
+    loop-holds
+    slice-aggregate-text
+    text-requires
+    counted-requires
+    number-requires
+    add-i
+    loop-less
+    loop-again
+    returns)

@@ -1,0 +1,183 @@
+// Reading the sample's lists and records, and how far a list has come.
+use crate::answer::Answered;
+use crate::call::Call;
+use crate::call::FROM_STORAGE;
+use crate::call::REMOVE;
+use crate::call::SOLVE_TRANSPOSE;
+use crate::compare::factors_end;
+use crate::sample::after;
+use crate::sample::double;
+use crate::sample::length;
+use crate::sample::size;
+use crate::sample::sum;
+use crate::sample::word;
+
+// The largest capacity, for which L's storage has no more than 240 entries.
+const LARGEST_CAPACITY: usize = 15;
+
+// How far a list has come: the position in the sample, the dimension and where the factors are stored.
+pub struct Progress {
+    pub damaged: bool,
+    pub at: usize,
+    pub dimension: usize,
+    pub factors_at: usize,
+}
+
+// A record of a call with what is expected of it, and the positions of its two vectors and of what the call left.
+pub struct Record {
+    pub call: Call,
+    pub expected: Answered,
+    pub first_at: usize,
+    pub second_at: usize,
+    pub results_at: usize,
+}
+
+fn damaged_at(at: usize) -> Progress {
+    Progress {
+        damaged: true,
+        at,
+        dimension: 0,
+        factors_at: 0,
+    }
+}
+
+fn read_call(data: &[u8], at: usize) -> Call {
+    Call {
+        function: length(data, at),
+        l: length(data, sum(at, 1)),
+        u: length(data, sum(at, 2)),
+        y: length(data, sum(at, 3)),
+        z: length(data, sum(at, 4)),
+        w: length(data, sum(at, 5)),
+        first: length(data, sum(at, 6)),
+        second: length(data, sum(at, 7)),
+        dimension: size(data, after(at, 1)),
+        capacity: size(data, after(at, 2)),
+        row: size(data, after(at, 3)),
+        column: size(data, after(at, 4)),
+        diagonal: double(word(data, after(at, 5))),
+    }
+}
+
+// The answer to a call that lends a capacity.
+fn read_answer(data: &[u8], at: usize, capacity: usize) -> Answered {
+    Answered {
+        number: size(data, at),
+        dimension: size(data, after(at, 1)),
+        capacity,
+        index: size(data, after(at, 2)),
+        moved_row: size(data, after(at, 3)),
+        moved_column: size(data, after(at, 4)),
+    }
+}
+
+// Where the parts of a record stand: its vectors, its answer, and what the call left.
+pub fn read_record(data: &[u8], at: usize) -> Record {
+    let call = read_call(data, at);
+    let first_at = after(at, 6);
+    let second_at = after(first_at, call.first);
+    let answer_at = after(second_at, call.second);
+    let expected = read_answer(data, answer_at, call.capacity);
+    Record {
+        call,
+        expected,
+        first_at,
+        second_at,
+        results_at: after(answer_at, 5),
+    }
+}
+
+// Whether a record has a function and an answer that a sample can have.
+fn is_sound(call: Call, answer: Answered, capacity: usize) -> bool {
+    if call.function == 0 {
+        return false;
+    }
+    if call.function > FROM_STORAGE {
+        return false;
+    }
+    if answer.number > 10 {
+        return false;
+    }
+    if answer.number == 0 {
+        return answer.dimension <= capacity;
+    }
+    true
+}
+
+// What an accepted call leaves behind in the sample: an update its factors, a solve its vector.
+fn after_results(
+    before: Progress,
+    function: usize,
+    answer: Answered,
+    first: usize,
+    at: usize,
+) -> Progress {
+    let kept = Progress {
+        damaged: false,
+        at,
+        dimension: before.dimension,
+        factors_at: before.factors_at,
+    };
+    if answer.number != 0 {
+        return kept;
+    }
+    if function <= REMOVE {
+        return Progress {
+            damaged: false,
+            at: factors_end(at, answer.dimension),
+            dimension: answer.dimension,
+            factors_at: at,
+        };
+    }
+    if function <= SOLVE_TRANSPOSE {
+        return Progress {
+            damaged: false,
+            at: after(at, first),
+            dimension: before.dimension,
+            factors_at: before.factors_at,
+        };
+    }
+    kept
+}
+
+// How far the list has come with a record.
+pub fn advance(data: &[u8], capacity: usize, before: Progress, record: Record) -> Progress {
+    let call = record.call;
+    let expected = record.expected;
+    if !is_sound(call, expected, capacity) {
+        return damaged_at(before.at);
+    }
+    let next = after_results(
+        before,
+        call.function,
+        expected,
+        call.first,
+        record.results_at,
+    );
+    if next.at > data.len() {
+        return damaged_at(before.at);
+    }
+    next
+}
+
+// Where the calls of a list start: after its number of calls, its capacity, its dimension and its factors.
+pub fn start_of(data: &[u8], at: usize, capacity: usize) -> Progress {
+    let dimension = size(data, after(at, 2));
+    let factors_at = after(at, 3);
+    if capacity > LARGEST_CAPACITY {
+        return damaged_at(at);
+    }
+    if dimension > capacity {
+        return damaged_at(at);
+    }
+    let end = factors_end(factors_at, dimension);
+    if end > data.len() {
+        return damaged_at(at);
+    }
+    Progress {
+        damaged: false,
+        at: end,
+        dimension,
+        factors_at,
+    }
+}

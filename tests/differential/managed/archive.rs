@@ -1,0 +1,109 @@
+//! The archive's managed calls.
+
+use super::answer::{Answer, Outputs};
+use super::call::{Call, Function, Instance};
+
+#[rustfmt::skip]
+extern "C" {
+    fn lumod_storage_lengths(capacity: usize, l: *mut usize, u: *mut usize) -> u32;
+    fn lumod_from_storage(
+        n: usize, c: usize, l: *const f64, l_len: usize, u: *const f64, u_len: usize,
+    ) -> u32;
+    fn lumod_push(
+        n: *mut usize, c: usize, l: *mut f64, l_len: usize, u: *mut f64, u_len: usize,
+        y: *mut f64, y_len: usize, z: *mut f64, z_len: usize, w: *mut f64, w_len: usize,
+        row: *const f64, row_len: usize, column: *const f64, column_len: usize, diagonal: f64,
+    ) -> u32;
+    fn lumod_replace_row(
+        n: usize, c: usize, l: *mut f64, l_len: usize, u: *mut f64, u_len: usize,
+        y: *mut f64, y_len: usize, z: *mut f64, z_len: usize, w: *mut f64, w_len: usize,
+        row: usize, values: *const f64, values_len: usize,
+    ) -> u32;
+    fn lumod_replace_column(
+        n: usize, c: usize, l: *mut f64, l_len: usize, u: *mut f64, u_len: usize,
+        y: *mut f64, y_len: usize, z: *mut f64, z_len: usize, w: *mut f64, w_len: usize,
+        column: usize, values: *const f64, values_len: usize,
+    ) -> u32;
+    fn lumod_remove(
+        n: *mut usize, c: usize, l: *mut f64, l_len: usize, u: *mut f64, u_len: usize,
+        y: *mut f64, y_len: usize, z: *mut f64, z_len: usize, w: *mut f64, w_len: usize,
+        row: usize, column: usize, moved_row: *mut usize, moved_column: *mut usize,
+    ) -> u32;
+    fn lumod_solve(
+        n: usize, c: usize, l: *mut f64, l_len: usize, u: *const f64, u_len: usize,
+        rhs: *mut f64, rhs_len: usize, index: *mut usize,
+    ) -> u32;
+    fn lumod_solve_transpose(
+        n: usize, c: usize, l: *mut f64, l_len: usize, u: *const f64, u_len: usize,
+        rhs: *mut f64, rhs_len: usize, index: *mut usize,
+    ) -> u32;
+    fn lumod_ready(
+        n: usize, c: usize, l: *const f64, l_len: usize, u: *const f64, u_len: usize,
+        ready: *mut u8,
+    ) -> u32;
+}
+
+/// Makes the call in the archive.
+pub fn call_archive(call: &Call, instance: &mut Instance, outputs: Outputs) -> Answer {
+    let n = instance.n;
+    let mut outputs = Outputs { n, ..outputs };
+    let number = if call.function.is_update() {
+        call_update(call, instance, &mut outputs)
+    } else {
+        call_other(call, instance, &mut outputs)
+    };
+    instance.n = outputs.n;
+    Answer { number, outputs }
+}
+
+#[rustfmt::skip]
+fn call_update(call: &Call, instance: &mut Instance, outputs: &mut Outputs) -> u32 {
+    let Instance { n, c, ref mut buffers } = *instance;
+    let [l, u, y, z, w, row, column, _] = buffers.slices_mut();
+    let (l, l_len, u, u_len) = (l.as_mut_ptr(), l.len(), u.as_mut_ptr(), u.len());
+    let (y, y_len, z, z_len) = (y.as_mut_ptr(), y.len(), z.as_mut_ptr(), z.len());
+    let (w, w_len) = (w.as_mut_ptr(), w.len());
+    // SAFETY: every pointer comes with the length of its own slice, and the slices are apart.
+    unsafe {
+        match call.function {
+            Function::Push => lumod_push(
+                &mut outputs.n, c, l, l_len, u, u_len, y, y_len, z, z_len, w, w_len,
+                row.as_ptr(), row.len(), column.as_ptr(), column.len(), call.diagonal,
+            ),
+            Function::ReplaceRow => lumod_replace_row(
+                n, c, l, l_len, u, u_len, y, y_len, z, z_len, w, w_len,
+                call.row, row.as_ptr(), row.len(),
+            ),
+            Function::ReplaceColumn => lumod_replace_column(
+                n, c, l, l_len, u, u_len, y, y_len, z, z_len, w, w_len,
+                call.column, column.as_ptr(), column.len(),
+            ),
+            _ => lumod_remove(
+                &mut outputs.n, c, l, l_len, u, u_len, y, y_len, z, z_len, w, w_len,
+                call.row, call.column, &mut outputs.moved_row, &mut outputs.moved_column,
+            ),
+        }
+    }
+}
+
+#[rustfmt::skip]
+fn call_other(call: &Call, instance: &mut Instance, outputs: &mut Outputs) -> u32 {
+    let Instance { n, c, ref mut buffers } = *instance;
+    let [l, u, .., rhs] = buffers.slices_mut();
+    let (l, l_len, u, u_len) = (l.as_mut_ptr(), l.len(), u.as_ptr(), u.len());
+    let (rhs, rhs_len) = (rhs.as_mut_ptr(), rhs.len());
+    // SAFETY: as above.
+    unsafe {
+        match call.function {
+            Function::StorageLengths => lumod_storage_lengths(c, &mut outputs.l, &mut outputs.u),
+            Function::FromStorage => lumod_from_storage(n, c, l, l_len, u, u_len),
+            Function::Solve => {
+                lumod_solve(n, c, l, l_len, u, u_len, rhs, rhs_len, &mut outputs.index)
+            }
+            Function::SolveTranspose => {
+                lumod_solve_transpose(n, c, l, l_len, u, u_len, rhs, rhs_len, &mut outputs.index)
+            }
+            _ => lumod_ready(n, c, l, l_len, u, u_len, &mut outputs.ready),
+        }
+    }
+}

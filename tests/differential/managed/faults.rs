@@ -1,0 +1,175 @@
+//! The faults that are planted among the managed calls.
+
+use std::mem::swap;
+
+use super::answer::{Answer, Outputs};
+use super::call::{Call, Function, Instance};
+use super::expected::Expected;
+use super::refusals::lengths;
+use crate::buffers::{Name, VECTORS};
+use crate::expectation::Place;
+use crate::places::active;
+use crate::plant::{flip, places, Planter};
+
+#[derive(Clone, Copy, PartialEq)]
+pub enum Fault {
+    Factor,
+    Solution,
+    SignOfZero,
+    NumberForNan,
+    UnusedStorage,
+    EndOfStorage,
+    SolveWork,
+    Workspace,
+    Data,
+    KeptFactor,
+    AfterRefusal,
+    BesideBuffer,
+    Number,
+    Index,
+    Moved,
+    Dimension,
+    Lengths,
+    Ready,
+    OutputAfterRefusal,
+}
+
+use Fault::*;
+
+/// Every kind of fault, with what it changes in the last instance.
+#[rustfmt::skip]
+pub const FAULTS: [(Fault, &str); 19] = [
+    (Factor, "the last bit of an active entry after an update"),
+    (Solution, "the last bit of an entry of a solution"),
+    (SignOfZero, "the sign of a zero in a result"),
+    (NumberForNan, "a number for a NaN in a result"),
+    (UnusedStorage, "a bit of unused storage within the capacity"),
+    (EndOfStorage, "a bit of storage beyond what the capacity asks for"),
+    (SolveWork, "a bit of solve work that is kept"),
+    (Workspace, "a bit of a workspace above the dimension"),
+    (Data, "a bit of a lent row or column"),
+    (KeptFactor, "a bit of an active entry after a call that is no update"),
+    (AfterRefusal, "a bit of a buffer after a refusal"),
+    (BesideBuffer, "a bit beside a buffer"),
+    (Number, "the returned number"),
+    (Index, "the index of a bad diagonal"),
+    (Moved, "moved row and column, exchanged"),
+    (Dimension, "the dimension after an update"),
+    (Lengths, "the lengths of L and U, exchanged"),
+    (Ready, "whether the factors are ready"),
+    (OutputAfterRefusal, "an output after a refusal"),
+];
+
+#[derive(Clone, Copy)]
+enum Change {
+    Answer(Answer),
+    Place(Name, isize),
+}
+
+pub fn plant(
+    planter: &mut Planter<Fault>,
+    made: u64,
+    call: &Call,
+    before: &Instance,
+    expected: &mut Expected,
+) {
+    let chosen = planter.choose(made, |fault| {
+        let places = places(&expected.buffers, |name, place| {
+            suits(fault, call, before, expected, name, place)
+        });
+        let changes = places
+            .into_iter()
+            .map(|(name, place)| Change::Place(name, place));
+        let answer = wrong_answer(fault, call, expected.answer);
+        changes.chain(answer.map(Change::Answer)).collect()
+    });
+    let buffers = &mut expected.buffers;
+    match chosen {
+        None => {}
+        Some((_, Change::Answer(answer), _)) => expected.answer = answer,
+        Some((fault, Change::Place(name, place), bit)) => match fault {
+            Factor | Solution => flip(buffers.rust[name].at_mut(place), 0),
+            SignOfZero => flip(buffers.rust[name].at_mut(place), 63),
+            NumberForNan => *buffers.rust[name].at_mut(place) = 1.0,
+            _ => flip(buffers.before[name].at_mut(place), bit),
+        },
+    }
+}
+
+/// What the fault puts in place of the answer, if that is another answer.
+fn wrong_answer(fault: Fault, call: &Call, answer: Answer) -> Option<Answer> {
+    let mut wrong = answer;
+    let Outputs {
+        n,
+        l,
+        u,
+        moved_row,
+        moved_column,
+        index,
+        ready,
+        ..
+    } = &mut wrong.outputs;
+    let accepted = answer.number == 0;
+    match (fault, call.function) {
+        (Number, _) => wrong.number ^= 1,
+        (Index, _) if answer.number > 8 => *index += 1,
+        (Moved, Function::Remove) if accepted => swap(moved_row, moved_column),
+        (Dimension, function) if accepted && function.is_update() => *n += 1,
+        (Lengths, Function::StorageLengths) if accepted => swap(l, u),
+        (Ready, Function::Ready) if accepted => *ready ^= 1,
+        (OutputAfterRefusal, function) if !accepted => match function {
+            Function::Push => *n ^= 1,
+            Function::Remove => *moved_column ^= 1,
+            Function::Solve | Function::SolveTranspose => *index ^= 1,
+            Function::Ready => *ready ^= 1,
+            Function::StorageLengths => *u ^= 1,
+            _ => {}
+        },
+        _ => {}
+    }
+    (wrong != answer).then_some(wrong)
+}
+
+/// Whether the fault changes what is expected at a place.
+fn suits(
+    fault: Fault,
+    call: &Call,
+    before: &Instance,
+    expected: &Expected,
+    name: Name,
+    place: isize,
+) -> bool {
+    let buffers = &expected.buffers;
+    let value = buffers.rust[name].at(place);
+    let result = buffers.place(name, place) == Place::Result;
+    let inside = place >= 0 && place < before.length(name) as isize;
+    let accepted = expected.answer.number == 0;
+    let kept = accepted && inside && buffers.place(name, place) == Place::Kept;
+    let update = call.function.is_update();
+    let lent = call.function.lent().contains(&name);
+    match fault {
+        Factor => result && update && !value.is_nan(),
+        Solution => result && !update && !value.is_nan(),
+        SignOfZero => result && value == 0.0,
+        NumberForNan => result && value.is_nan(),
+        Workspace => kept && update && VECTORS.contains(&name),
+        Data => kept && lent && matches!(name, Name::Row | Name::Column),
+        AfterRefusal => !accepted && inside && lent,
+        BesideBuffer => !inside && lent,
+        _ => kept && part_of_storage(before, name, place as usize) == Some(fault),
+    }
+}
+
+/// The fault that changes this part of the storage, if it is kept.
+fn part_of_storage(before: &Instance, name: Name, place: usize) -> Option<Fault> {
+    let Instance { n, c, .. } = *before;
+    let (l, u) = lengths(c);
+    match name {
+        Name::L if place as u128 >= l => Some(EndOfStorage),
+        Name::U if place as u128 >= u => Some(EndOfStorage),
+        Name::L if place >= c * c => Some(SolveWork),
+        Name::L | Name::U if active(c, n).any(|entry| entry == (name, place)) => Some(KeptFactor),
+        Name::L | Name::U => Some(UnusedStorage),
+        _ => None,
+    }
+}

@@ -1,0 +1,71 @@
+//! The managed calls, from `lumod_storage_lengths` to `lumod_ready`.
+
+mod answer;
+mod archive;
+mod call;
+mod comparison;
+mod counts;
+mod expected;
+mod faults;
+mod lists;
+mod paths;
+mod published;
+mod refusals;
+mod sets;
+mod spoil;
+
+use crate::calls::{Calls, End};
+use crate::plant::Planter;
+use crate::random::Random;
+use comparison::Comparison;
+pub use faults::FAULTS;
+
+/// A run of so many calls must reach every answer and every path.
+const ENOUGH: u64 = 100_000;
+
+/// Sets of causes for a refusal, then lists. With a fault to plant lists alone.
+pub fn run(wanted: u64, seed: u64, kind: usize) -> End {
+    if kind == 0 {
+        if let Err(end) = call_sets(seed) {
+            return end;
+        }
+    }
+    let planter = Planter::of_kind(&FAULTS, kind, seed);
+    let mut comparison = Comparison::new(Calls::new(wanted, seed), planter);
+    match call_lists(&mut Random::new(seed), &mut comparison) {
+        End::AllMade => summary(wanted, &comparison),
+        end => end,
+    }
+}
+
+fn call_sets(seed: u64) -> Result<(), End> {
+    let planter = Planter::of_kind(&FAULTS, 0, seed);
+    let mut comparison = Comparison::new(Calls::new(u64::MAX, seed), planter);
+    let sets = sets::call_all(&mut Random::new(seed), &mut comparison)?;
+    let made = comparison.calls.made;
+    println!("{sets} sets of causes for a refusal, in {made} calls; 0 differences");
+    Ok(())
+}
+
+/// Short and long lists by turns, until the run ends.
+fn call_lists(random: &mut Random, comparison: &mut Comparison) -> End {
+    loop {
+        let made = (0..40)
+            .try_for_each(|_| lists::call_short_list(random, comparison))
+            .and_then(|()| lists::call_long_list(random, comparison));
+        if let Err(end) = made {
+            return end;
+        }
+    }
+}
+
+fn summary(wanted: u64, comparison: &Comparison) -> End {
+    println!("{}", comparison.counts);
+    println!("{wanted} managed calls; 0 differences");
+    let unreached = comparison.counts.unreached();
+    if wanted >= ENOUGH && !unreached.is_empty() {
+        println!("never reached: {}", unreached.join("; "));
+        return End::NotReached;
+    }
+    End::AllMade
+}
