@@ -6,6 +6,9 @@
 mod archive;
 mod batch;
 mod check;
+#[allow(dead_code)]
+#[path = "../tests/differential/managed/declarations.rs"]
+mod declarations;
 mod inputs;
 mod measure;
 #[allow(dead_code)]

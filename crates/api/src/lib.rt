@@ -54,6 +54,7 @@ pub enum MovedColumn {
     Nothing,
 }
 
+// What a remove moved.
 pub struct Removal {
     pub moved_row: MovedRow,
     pub moved_column: MovedColumn,
@@ -77,6 +78,7 @@ pub struct CallResult {
     pub answer: Answer,
 }
 
+// The same of remove.
 pub struct RemoveResult {
     pub state: LuMod,
     pub answer: RemoveAnswer,
@@ -127,6 +129,9 @@ pub enum Readiness {
     Refused(Refusal),
 }
 
+// Every call tests the storage that it is lent (InvalidDimension, SizeOverflow, InsufficientStorage), an update then its workspaces, which have one length
+// (InsufficientStorage), and then what its comment names, in that order. A refused call writes nothing and hands the state back as it was. An update leaves
+// the workspaces from the larger dimension on, and what lies outside the active entries, as they were; their entries below are scratch.
 impl LuMod {
     // The lengths of L and U that a capacity needs. SizeOverflow where capacity + 1 or L's length exceeds usize.
     pub fn storage_lengths(capacity: usize) -> RequiredLengths
@@ -150,12 +155,14 @@ impl LuMod {
         }
     }
 
+    // The number of active rows and columns.
     pub fn dimension(self) -> usize
         ensures { λ r. ⌜ r ≡ self .n ⌝ }
     {
         self.n
     }
 
+    // The largest dimension that the storage has room for.
     pub fn capacity(self) -> usize
         ensures { λ r. ⌜ r ≡ self .capacity ⌝ }
     {
@@ -180,8 +187,8 @@ impl LuMod {
         }
     }
 
-    // Appends a row and a column to the matrix; `diagonal` is the entry where they meet. row and column have the length of the dimension, the workspaces
-    // one more. The dimension grows by one.
+    // Appends a row and a column to the matrix; `diagonal` is the entry where they meet. The dimension grows by one. CapacityExceeded where it is the
+    // capacity, LengthMismatch where row or column has another length than the dimension, InsufficientWorkspace where the workspaces have no more.
     pub fn push(
         self,
         l: &mut [f64],
@@ -212,7 +219,8 @@ impl LuMod {
         }
     }
 
-    // Replaces a row of the matrix.
+    // Replaces a row of the matrix. RowOutOfBounds where there is no such row, LengthMismatch where values has another length than the dimension,
+    // InsufficientWorkspace where the workspaces are shorter.
     pub fn replace_row(
         self,
         l: &mut [f64],
@@ -242,7 +250,8 @@ impl LuMod {
         }
     }
 
-    // Replaces a column of the matrix.
+    // Replaces a column of the matrix. ColumnOutOfBounds where there is no such column, LengthMismatch where values has another length than the dimension,
+    // InsufficientWorkspace where the workspaces are shorter.
     pub fn replace_column(
         self,
         l: &mut [f64],
@@ -272,7 +281,9 @@ impl LuMod {
         }
     }
 
-    // Removes a row and a column of the matrix; the last of each moves to the place of the removed one. The dimension falls by one.
+    // Removes a row and a column of the matrix; the last of each moves to the place of the removed one, and is named where it is another. The dimension falls
+    // by one. RowOutOfBounds, then ColumnOutOfBounds, where there is no such row or column, InsufficientWorkspace where the workspaces are shorter than the
+    // dimension was.
     pub fn remove(
         self,
         l: &mut [f64],
@@ -303,7 +314,8 @@ impl LuMod {
         }
     }
 
-    // Solves with the matrix in place; the end of L is work. Refused where a diagonal of U is zero, infinite or NaN.
+    // Solves with the matrix in place: rhs becomes the solution. The end of L is work, below the dimension. LengthMismatch where rhs has another length than
+    // the dimension; then the first diagonal of U that is zero (Singular), infinite or NaN (NonFiniteDiagonal), by its index.
     pub fn solve_in_place(self, l: &mut [f64], u: &[f64], rhs: &mut [f64]) -> CallResult
         ensures { λ r. ⌜ ManagedOutcome (calls.solve (now (rhs .entry))) (lentToSolve (self .n) (self .capacity) (now (l .entry)) (now (u .entry)))
             (lentToSolve (r .state .n) (r .state .capacity) (now (l .exit)) (now (u .entry))) (answerOf (r .answer)) (now (rhs .exit)) ⌝ }
@@ -324,7 +336,7 @@ impl LuMod {
         }
     }
 
-    // Solves with the matrix transposed in place; the end of L is work. Refused where a diagonal of U is zero, infinite or NaN.
+    // The same with the matrix transposed.
     pub fn solve_transpose_in_place(self, l: &mut [f64], u: &[f64], rhs: &mut [f64]) -> CallResult
         ensures { λ r. ⌜ ManagedOutcome (calls.solveTransposed (now (rhs .entry))) (lentToSolve (self .n) (self .capacity) (now (l .entry)) (now (u .entry)))
             (lentToSolve (r .state .n) (r .state .capacity) (now (l .exit)) (now (u .entry))) (answerOf (r .answer)) (now (rhs .exit)) ⌝ }

@@ -5,6 +5,7 @@ mod archive;
 mod call;
 mod comparison;
 mod counts;
+mod declarations;
 mod expected;
 mod faults;
 mod lists;

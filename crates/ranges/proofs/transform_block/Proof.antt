@@ -4,8 +4,8 @@ use mathlib.Core.Path.{_≡_}
 use Prim.Native.Nat.{_-_, _≤_, _<_}
 use native.Mathlib.Omega.{arith}
 use lib.Ieee.{binary64}
-use Rattle.numbers.specs.NumberForm.{ieee}
 use lib.ListN.{length-set}
+use Rattle.numbers.specs.NumberForm.{ieee}
 use Rattle.ranges.specs.Written.{RowsTransformed}
 use Rattle.ranges.proofs.Writing.{rows-none, rows-more}
 use Rattle.ranges.proofs.transform_block.Statement.{statement}

@@ -1,13 +1,13 @@
 -- `transform_rows`: one block a turn.
 use borrow.Author.Needs.{needs}
-use native.Mathlib.Omega.{arith}
-use Rattle.ranges.proofs.Writing.{rows-none, rows-further}
-use Rattle.ranges.specs.Written.{RowsTransformed}
-use Rattle.numbers.specs.NumberForm.{ieee}
-use lib.Ieee.{binary64}
-use Prim.Native.Nat.{_-_, _≤_}
 use mathlib.Core.Logic.{inl, inr, ⊎-elim}
 use mathlib.Core.Path.{_≡_}
+use Prim.Native.Nat.{_-_, _≤_}
+use native.Mathlib.Omega.{arith}
+use lib.Ieee.{binary64}
+use Rattle.numbers.specs.NumberForm.{ieee}
+use Rattle.ranges.specs.Written.{RowsTransformed}
+use Rattle.ranges.proofs.Writing.{rows-none, rows-further}
 use Rattle.ranges.proofs.transform_rows.Statement.{statement}
 use Rattle.ranges.proofs.transform_rows.Tie as tie
 

@@ -1,8 +1,8 @@
 -- `test_lent`: each way through its tests.
+use borrow.Author.Needs.{needs}
+use borrow.Author.Tests.{eq-eqb, ne-eqb}
 use Rattle.managed.specs.Refusals.{workspaceTests}
 use Rattle.refusals.proofs.Chain.{refused-first, passed-none}
-use borrow.Author.Tests.{eq-eqb, ne-eqb}
-use borrow.Author.Needs.{needs}
 use Rattle.refusals.proofs.test_lent.Statement.{statement}
 use Rattle.refusals.proofs.test_lent.Tie as tie
 

@@ -1,13 +1,13 @@
 -- `test_push`: each way through its tests.
-use native.Mathlib.Omega.{arith}
-use Rattle.managed.specs.Refusals.{lentTests, refusalAt}
-use Rattle.machine.specs.Machine.{refusal}
-use Prim.Native.Nat.{_+_, _<_, _≤_}
-use lib.ListN.{length}
-use denote.Ref.{now}
-use Rattle.refusals.proofs.Chain.{refused-first, passed-none}
-use borrow.Author.Tests.{lt-ltb, le-ltb, eq-eqb, ne-eqb}
 use borrow.Author.Needs.{needs}
+use Prim.Native.Nat.{_+_, _<_, _≤_}
+use native.Mathlib.Omega.{arith}
+use borrow.Author.Tests.{lt-ltb, le-ltb, eq-eqb, ne-eqb}
+use denote.Ref.{now}
+use lib.ListN.{length}
+use Rattle.machine.specs.Machine.{refusal}
+use Rattle.managed.specs.Refusals.{lentTests, refusalAt}
+use Rattle.refusals.proofs.Chain.{refused-first, passed-none}
 use Rattle.refusals.proofs.test_push.Statement.{statement}
 use Rattle.refusals.proofs.test_push.Tie as tie
 

@@ -1,10 +1,10 @@
 -- `test_remove`: each way through its tests.
-use Rattle.managed.specs.Refusals.{lentTests, refusalAt}
-use Rattle.machine.specs.Machine.{refusal}
-use native.Mathlib.Nat.{add-zero}
-use Rattle.refusals.proofs.Chain.{refused-first, passed-none}
-use borrow.Author.Tests.{lt-ltb, le-ltb, le-leb, lt-leb}
 use borrow.Author.Needs.{needs}
+use native.Mathlib.Nat.{add-zero}
+use borrow.Author.Tests.{lt-ltb, le-ltb, le-leb, lt-leb}
+use Rattle.machine.specs.Machine.{refusal}
+use Rattle.managed.specs.Refusals.{lentTests, refusalAt}
+use Rattle.refusals.proofs.Chain.{refused-first, passed-none}
 use Rattle.refusals.proofs.test_remove.Statement.{statement}
 use Rattle.refusals.proofs.test_remove.Tie as tie
 

@@ -1,10 +1,10 @@
 -- `test_replace_row`: each way through its tests.
-use Rattle.managed.specs.Refusals.{lentTests, refusalAt}
-use Rattle.machine.specs.Machine.{refusal}
-use native.Mathlib.Nat.{add-zero}
-use Rattle.refusals.proofs.Chain.{refused-first, passed-none}
-use borrow.Author.Tests.{le-leb, lt-leb}
 use borrow.Author.Needs.{needs}
+use native.Mathlib.Nat.{add-zero}
+use borrow.Author.Tests.{le-leb, lt-leb}
+use Rattle.machine.specs.Machine.{refusal}
+use Rattle.managed.specs.Refusals.{lentTests, refusalAt}
+use Rattle.refusals.proofs.Chain.{refused-first, passed-none}
 use Rattle.refusals.proofs.test_replace_row.Statement.{statement}
 use Rattle.refusals.proofs.test_replace_row.Tie as tie
 

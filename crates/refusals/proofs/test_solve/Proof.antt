@@ -1,16 +1,15 @@
 -- `test_solve`: each way through its tests.
-use Rattle.managed.proofs.Refusals.{storage-passed}
-use Rattle.managed.specs.Refusals.{lentTests, refusalAt}
+use borrow.Author.Needs.{needs}
+use mathlib.Core.Path.{ap, sym, _∙_}
+use borrow.Author.Tests.{ne-eqb}
+use denote.Ref.{now}
+use lib.Ieee.{binary64}
+use Rattle.numbers.specs.NumberForm.{ieee}
 use Rattle.machine.specs.Machine.{refusal}
 use Rattle.solves.specs.Diagonal.{answerOf}
-use Rattle.numbers.specs.NumberForm.{ieee}
-use lib.Ieee.{binary64}
-use mathlib.Core.Path.{ap}
-use denote.Ref.{now}
+use Rattle.managed.specs.Refusals.{lentTests, refusalAt}
+use Rattle.managed.proofs.Refusals.{storage-passed}
 use Rattle.refusals.proofs.Chain.{refused-first, passed-none, diagonal-decides}
-use borrow.Author.Tests.{ne-eqb}
-use mathlib.Core.Path.{sym, _∙_}
-use borrow.Author.Needs.{needs}
 use Rattle.refusals.proofs.test_solve.Statement.{statement}
 use Rattle.refusals.proofs.test_solve.Tie as tie
 

@@ -1,8 +1,8 @@
 -- `test_storage`: each way through its tests is a law of StorageTests, given what `storage_lengths` answered.
-use native.Mathlib.Omega.{arith}
-use Rattle.managed.proofs.StorageTests.{invalid-dimension, size-overflow, short-L, short-U, storage-passes}
-use Rattle.storage.proofs.Lengths.{refused-overflows, given-lengths}
 use borrow.Author.Needs.{needs}
+use native.Mathlib.Omega.{arith}
+use Rattle.storage.proofs.Lengths.{refused-overflows, given-lengths}
+use Rattle.managed.proofs.StorageTests.{invalid-dimension, size-overflow, short-L, short-U, storage-passes}
 use Rattle.refusals.proofs.test_storage.Statement.{statement}
 use Rattle.refusals.proofs.test_storage.Tie as tie
 

@@ -1,14 +1,14 @@
 -- `push`: the row is copied, the diagonal put behind it, and the update is that of the data.
-use native.Mathlib.Omega.{arith}
-use Rattle.updates.proofs.CopiedData.{push-of-copy}
-use Rattle.storage.specs.Views.{viewL, viewU}
+use borrow.Author.Needs.{needs}
 use mathlib.Core.Path.{_∙_}
+use native.Mathlib.Omega.{arith}
+use denote.Ref.{now}
 use lib.ListN.{length-set}
+use lib.Ieee.{binary64}
 use Rattle.numbers.specs.Tolerances.{managedEpsilon, managedTiny}
 use Rattle.numbers.specs.NumberForm.{ieee}
-use denote.Ref.{now}
-use lib.Ieee.{binary64}
-use borrow.Author.Needs.{needs}
+use Rattle.storage.specs.Views.{viewL, viewU}
+use Rattle.updates.proofs.CopiedData.{push-of-copy}
 use Rattle.updates.proofs.push.Statement.{statement}
 use Rattle.updates.proofs.push.Tie as tie
 

@@ -1,11 +1,11 @@
 -- `replace_row`: the values are copied, and the update is that of the data.
-use Rattle.updates.proofs.CopiedData.{row-of-copy}
-use Rattle.storage.specs.Views.{viewL, viewU}
-use Rattle.numbers.specs.Tolerances.{managedEpsilon, managedTiny}
-use Rattle.numbers.specs.NumberForm.{ieee}
+use borrow.Author.Needs.{needs}
 use denote.Ref.{now}
 use lib.Ieee.{binary64}
-use borrow.Author.Needs.{needs}
+use Rattle.numbers.specs.Tolerances.{managedEpsilon, managedTiny}
+use Rattle.numbers.specs.NumberForm.{ieee}
+use Rattle.storage.specs.Views.{viewL, viewU}
+use Rattle.updates.proofs.CopiedData.{row-of-copy}
 use Rattle.updates.proofs.replace_row.Statement.{statement}
 use Rattle.updates.proofs.replace_row.Tie as tie
 

@@ -1,12 +1,12 @@
 -- `LuMod::from_storage`: what each answer of `test_storage` becomes.
-use Rattle.api.specs.Answers.{adoptedUnder}
-use Rattle.refusals.specs.Refusal.{testOf}
-use Rattle.refusals.specs.declared.Test.{Test}
-use Rattle.machine.specs.Calls.{Answer}
-use Prim.Native.Nat.{ℕ}
+use borrow.Author.Needs.{needs}
 use mathlib.Core.Option.{Option}
 use mathlib.Core.Path.{_≡_, sym, ap, _∙_}
-use borrow.Author.Needs.{needs}
+use Prim.Native.Nat.{ℕ}
+use Rattle.machine.specs.Calls.{Answer}
+use Rattle.refusals.specs.Refusal.{testOf}
+use Rattle.refusals.specs.declared.Test.{Test}
+use Rattle.api.specs.Answers.{adoptedUnder}
 use Rattle.api.proofs.LuMod.from_storage.Statement.{statement}
 use Rattle.api.proofs.LuMod.from_storage.Tie as tie
 

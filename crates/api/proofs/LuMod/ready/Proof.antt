@@ -1,15 +1,15 @@
 -- `LuMod::ready`: refused by the storage, or what the search along the diagonal found.
-use Rattle.api.specs.Answers.{readyUnder}
-use Rattle.managed.proofs.Refusals.{storage-passed}
-use Rattle.refusals.specs.Refusal.{testOf}
-use Rattle.solves.specs.Diagonal.{answerOf}
-use Rattle.storage.specs.Views.{viewU}
-use Rattle.machine.specs.Solves.{diagonals}
+use borrow.Author.Needs.{needs}
 use mathlib.Core.Path.{sym, ap, _∙_}
-use Rattle.numbers.specs.NumberForm.{ieee}
 use denote.Ref.{now}
 use lib.Ieee.{binary64}
-use borrow.Author.Needs.{needs}
+use Rattle.numbers.specs.NumberForm.{ieee}
+use Rattle.machine.specs.Solves.{diagonals}
+use Rattle.storage.specs.Views.{viewU}
+use Rattle.solves.specs.Diagonal.{answerOf}
+use Rattle.managed.proofs.Refusals.{storage-passed}
+use Rattle.refusals.specs.Refusal.{testOf}
+use Rattle.api.specs.Answers.{readyUnder}
 use Rattle.api.proofs.LuMod.ready.Statement.{statement}
 use Rattle.api.proofs.LuMod.ready.Tie as tie
 

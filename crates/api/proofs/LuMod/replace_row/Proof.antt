@@ -1,16 +1,16 @@
 -- `LuMod::replace_row`: refused, or performed.
-use native.Mathlib.Omega.{arith}
-use Rattle.api.proofs.Calls.{row-outcome, row-room}
-use Rattle.refusals.specs.Refusal.{testOf}
+use borrow.Author.Needs.{needs}
 use mathlib.Core.Path.{sym, ap, _∙_}
-use Rattle.machine.specs.Calls as calls
-use Rattle.managed.proofs.Outcomes.{outcome-refused}
-use Rattle.managed.specs.Instance.{instance}
-use Rattle.numbers.specs.Tolerances.{managedEpsilon, managedTiny}
-use Rattle.numbers.specs.NumberForm.{ieee}
+use native.Mathlib.Omega.{arith}
 use denote.Ref.{now}
 use lib.Ieee.{binary64}
-use borrow.Author.Needs.{needs}
+use Rattle.numbers.specs.Tolerances.{managedEpsilon, managedTiny}
+use Rattle.numbers.specs.NumberForm.{ieee}
+use Rattle.machine.specs.Calls as calls
+use Rattle.managed.specs.Instance.{instance}
+use Rattle.managed.proofs.Outcomes.{outcome-refused}
+use Rattle.refusals.specs.Refusal.{testOf}
+use Rattle.api.proofs.Calls.{row-outcome, row-room}
 use Rattle.api.proofs.LuMod.replace_row.Statement.{statement}
 use Rattle.api.proofs.LuMod.replace_row.Tie as tie
 

@@ -1,19 +1,18 @@
 -- `LuMod::solve_in_place`: refused, or solved.
-use native.Mathlib.Omega.{arith}
-use Rattle.api.proofs.Calls.{solve-outcome}
-use Rattle.machine.proofs.Refusals.{solve-accepted}
-use Rattle.managed.proofs.Refusals.{accepted-storage, accepted-machine}
-use Rattle.managed.specs.Instance.{view}
-use Rattle.refusals.specs.Refusal.{testOf}
+use borrow.Author.Needs.{needs}
 use mathlib.Core.Path.{sym, ap, _∙_}
-use Rattle.machine.specs.Calls as calls
-use Rattle.managed.proofs.Outcomes.{outcome-refused}
-use Rattle.managed.specs.Instance.{lentToSolve}
-use Rattle.numbers.specs.Tolerances.{managedEpsilon, managedTiny}
-use Rattle.numbers.specs.NumberForm.{ieee}
+use native.Mathlib.Omega.{arith}
 use denote.Ref.{now}
 use lib.Ieee.{binary64}
-use borrow.Author.Needs.{needs}
+use Rattle.numbers.specs.Tolerances.{managedEpsilon, managedTiny}
+use Rattle.numbers.specs.NumberForm.{ieee}
+use Rattle.machine.specs.Calls as calls
+use Rattle.machine.proofs.Refusals.{solve-accepted}
+use Rattle.managed.specs.Instance.{view, lentToSolve}
+use Rattle.managed.proofs.Refusals.{accepted-storage, accepted-machine}
+use Rattle.managed.proofs.Outcomes.{outcome-refused}
+use Rattle.refusals.specs.Refusal.{testOf}
+use Rattle.api.proofs.Calls.{solve-outcome}
 use Rattle.api.proofs.LuMod.solve_in_place.Statement.{statement}
 use Rattle.api.proofs.LuMod.solve_in_place.Tie as tie
 

@@ -1,11 +1,11 @@
 -- `lumod_from_storage`: the number of what was adopted or not.
-use Rattle.lumod_c.proofs.Returns.{adoption-number}
-use Rattle.managed.specs.Refusals.{storageTests}
-use lib.ListN.{length}
-use denote.Ref.{now}
-use Rattle.api.specs.Answers.{adoptionOf}
-use mathlib.Core.Path.{sym, ap, _∙_}
 use borrow.Author.Needs.{needs}
+use mathlib.Core.Path.{sym, ap, _∙_}
+use denote.Ref.{now}
+use lib.ListN.{length}
+use Rattle.managed.specs.Refusals.{storageTests}
+use Rattle.api.specs.Answers.{adoptionOf}
+use Rattle.lumod_c.proofs.Returns.{adoption-number}
 use Rattle.lumod_c.proofs.managed_calls.lumod_from_storage.Statement.{statement}
 use Rattle.lumod_c.proofs.managed_calls.lumod_from_storage.Tie as tie
 

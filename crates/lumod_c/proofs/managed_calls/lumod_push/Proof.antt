@@ -1,9 +1,9 @@
 -- `lumod_push`: the outcome of `LuMod::push`, and its number.
-use Rattle.lumod_c.proofs.Returns.{returned}
-use Rattle.managed.specs.Instance.{instance}
-use Rattle.machine.specs.Calls as calls
-use denote.Ref.{now}
 use borrow.Author.Needs.{needs}
+use denote.Ref.{now}
+use Rattle.machine.specs.Calls as calls
+use Rattle.managed.specs.Instance.{instance}
+use Rattle.lumod_c.proofs.Returns.{returned}
 use Rattle.lumod_c.proofs.managed_calls.lumod_push.Statement.{statement}
 use Rattle.lumod_c.proofs.managed_calls.lumod_push.Tie as tie
 

@@ -1,9 +1,9 @@
 -- `lumod_ready`: yes, no, or the number of the refusal.
-use Rattle.lumod_c.specs.Managed.{ReadyReturned}
-use Rattle.api.specs.Answers.{ReadyAnswer, readinessOf}
-use denote.Ref.{now}
-use mathlib.Core.Path.{refl, sym, ap, _∙_, subst}
 use borrow.Author.Needs.{needs}
+use mathlib.Core.Path.{refl, sym, ap, _∙_, subst}
+use denote.Ref.{now}
+use Rattle.api.specs.Answers.{ReadyAnswer, readinessOf}
+use Rattle.lumod_c.specs.Managed.{ReadyReturned}
 use Rattle.lumod_c.proofs.managed_calls.lumod_ready.Statement.{statement}
 use Rattle.lumod_c.proofs.managed_calls.lumod_ready.Tie as tie
 

@@ -1,10 +1,10 @@
 -- `lumod_remove`: the outcome of `LuMod::remove`, its number, and what moved.
-use Rattle.lumod_c.proofs.Returns.{returned, refusal-moves-nothing}
-use mathlib.Core.Path.{refl}
-use Rattle.managed.specs.Instance.{instance}
-use Rattle.machine.specs.Calls as calls
-use denote.Ref.{now}
 use borrow.Author.Needs.{needs}
+use mathlib.Core.Path.{refl}
+use denote.Ref.{now}
+use Rattle.machine.specs.Calls as calls
+use Rattle.managed.specs.Instance.{instance}
+use Rattle.lumod_c.proofs.Returns.{returned, refusal-moves-nothing}
 use Rattle.lumod_c.proofs.managed_calls.lumod_remove.Statement.{statement}
 use Rattle.lumod_c.proofs.managed_calls.lumod_remove.Tie as tie
 

@@ -1,9 +1,9 @@
 -- `lumod_replace_column`: the outcome of `LuMod::replace_column`, and its number.
-use Rattle.lumod_c.proofs.Returns.{returned-staying, column-stays}
-use Rattle.managed.specs.Instance.{instance}
-use Rattle.machine.specs.Calls as calls
-use denote.Ref.{now}
 use borrow.Author.Needs.{needs}
+use denote.Ref.{now}
+use Rattle.machine.specs.Calls as calls
+use Rattle.managed.specs.Instance.{instance}
+use Rattle.lumod_c.proofs.Returns.{returned-staying, column-stays}
 use Rattle.lumod_c.proofs.managed_calls.lumod_replace_column.Statement.{statement}
 use Rattle.lumod_c.proofs.managed_calls.lumod_replace_column.Tie as tie
 

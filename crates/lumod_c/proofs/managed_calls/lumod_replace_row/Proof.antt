@@ -1,9 +1,9 @@
 -- `lumod_replace_row`: the outcome of `LuMod::replace_row`, and its number.
-use Rattle.lumod_c.proofs.Returns.{returned-staying, row-stays}
-use Rattle.managed.specs.Instance.{instance}
-use Rattle.machine.specs.Calls as calls
-use denote.Ref.{now}
 use borrow.Author.Needs.{needs}
+use denote.Ref.{now}
+use Rattle.machine.specs.Calls as calls
+use Rattle.managed.specs.Instance.{instance}
+use Rattle.lumod_c.proofs.Returns.{returned-staying, row-stays}
 use Rattle.lumod_c.proofs.managed_calls.lumod_replace_row.Statement.{statement}
 use Rattle.lumod_c.proofs.managed_calls.lumod_replace_row.Tie as tie
 

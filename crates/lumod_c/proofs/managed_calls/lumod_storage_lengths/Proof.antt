@@ -1,9 +1,9 @@
 -- `lumod_storage_lengths`: the lengths, or 2.
-use Rattle.lumod_c.specs.Managed.{LengthsReturned}
-use Rattle.storage.specs.Lengths.{LengthsAnswer, answerOf}
-use denote.Ref.{now}
-use mathlib.Core.Path.{refl, sym, ap, _∙_, subst}
 use borrow.Author.Needs.{needs}
+use mathlib.Core.Path.{refl, sym, ap, _∙_, subst}
+use denote.Ref.{now}
+use Rattle.storage.specs.Lengths.{LengthsAnswer, answerOf}
+use Rattle.lumod_c.specs.Managed.{LengthsReturned}
 use Rattle.lumod_c.proofs.managed_calls.lumod_storage_lengths.Statement.{statement}
 use Rattle.lumod_c.proofs.managed_calls.lumod_storage_lengths.Tie as tie
 

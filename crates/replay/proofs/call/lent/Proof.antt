@@ -1,6 +1,6 @@
 -- `lent`: a length within the buffer is the length of the part that is lent.
-use native.Mathlib.Omega.{arith}
 use mathlib.Core.Path.{sym}
+use native.Mathlib.Omega.{arith}
 use lib.Seq.{length-take-le}
 use Rattle.replay.proofs.call.lent.Statement.{statement}
 use Rattle.replay.proofs.call.lent.Tie as tie

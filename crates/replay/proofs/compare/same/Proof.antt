@@ -1,6 +1,6 @@
 -- `same`: past its tests both are numbers, so they have bits.
-use Rattle.numbers.proofs.FromBits.{is-number}
 use borrow.Author.Needs.{needs}
+use Rattle.numbers.proofs.FromBits.{is-number}
 use Rattle.replay.proofs.compare.same.Statement.{statement}
 use Rattle.replay.proofs.compare.same.Tie as tie
 

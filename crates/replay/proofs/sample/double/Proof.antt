@@ -1,11 +1,11 @@
 -- `double`: past its test the bits are no NaN's.
+use borrow.Author.Needs.{needs}
 use mathlib.Core.Path.{sym, subst, _∙_}
 use mathlib.Core.Bool.{Bool, not}
 use borrow.Author.Tests.{le-ltb}
 use lib.Dec.{T}
 use lib.Ieee.{binary64}
 use lib.Ieee.Bits.{nanBits-above}
-use borrow.Author.Needs.{needs}
 use Rattle.replay.proofs.sample.double.Statement.{statement}
 use Rattle.replay.proofs.sample.double.Tie as tie
 

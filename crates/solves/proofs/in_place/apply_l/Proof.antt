@@ -1,11 +1,11 @@
 -- `apply_l`: the vector goes behind L, and its product over it.
-use native.Mathlib.Omega.{arith}
-use Rattle.solves.proofs.InPlace.{product-in-place}
-use Rattle.machine.proofs.Products.{product-same}
-use Rattle.machine.specs.Products.{product}
-use Rattle.numbers.specs.NumberForm.{ieee}
-use lib.Ieee.{binary64}
 use borrow.Author.Needs.{needs}
+use native.Mathlib.Omega.{arith}
+use lib.Ieee.{binary64}
+use Rattle.numbers.specs.NumberForm.{ieee}
+use Rattle.machine.specs.Products.{product}
+use Rattle.machine.proofs.Products.{product-same}
+use Rattle.solves.proofs.InPlace.{product-in-place}
 use Rattle.solves.proofs.in_place.apply_l.Statement.{statement}
 use Rattle.solves.proofs.in_place.apply_l.Tie as tie
 

@@ -1,11 +1,11 @@
 -- `apply_l_transposed`: the vector goes behind L, and its product over it.
-use native.Mathlib.Omega.{arith}
-use Rattle.solves.proofs.InPlace.{product-in-place}
-use Rattle.machine.proofs.Products.{product-transposed-same}
-use Rattle.machine.specs.Products.{productTransposed}
-use Rattle.numbers.specs.NumberForm.{ieee}
-use lib.Ieee.{binary64}
 use borrow.Author.Needs.{needs}
+use native.Mathlib.Omega.{arith}
+use lib.Ieee.{binary64}
+use Rattle.numbers.specs.NumberForm.{ieee}
+use Rattle.machine.specs.Products.{productTransposed}
+use Rattle.machine.proofs.Products.{product-transposed-same}
+use Rattle.solves.proofs.InPlace.{product-in-place}
 use Rattle.solves.proofs.in_place.apply_l_transposed.Statement.{statement}
 use Rattle.solves.proofs.in_place.apply_l_transposed.Tie as tie
 

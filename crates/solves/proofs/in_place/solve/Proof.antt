@@ -1,12 +1,12 @@
 -- `solve`: the product, and back substitution on what it left.
+use borrow.Author.Needs.{needs}
 use native.Mathlib.Omega.{arith}
-use Rattle.solves.proofs.Vectors.{written-as, written-over}
-use Rattle.storage.specs.Views.{viewU}
-use Rattle.machine.proofs.Solves.{back-substitution-same}
-use Rattle.numbers.specs.NumberForm.{ieee}
 use denote.Ref.{now}
 use lib.Ieee.{binary64}
-use borrow.Author.Needs.{needs}
+use Rattle.numbers.specs.NumberForm.{ieee}
+use Rattle.machine.proofs.Solves.{back-substitution-same}
+use Rattle.storage.specs.Views.{viewU}
+use Rattle.solves.proofs.Vectors.{written-as, written-over}
 use Rattle.solves.proofs.in_place.solve.Statement.{statement}
 use Rattle.solves.proofs.in_place.solve.Tie as tie
 

@@ -1,11 +1,11 @@
 -- `solve_transposed`: forward substitution, and the product of what it left.
-use Rattle.solves.proofs.Vectors.{written-as, written-over}
-use Rattle.storage.specs.Views.{viewL}
-use Rattle.machine.proofs.Products.{product-transposed-same}
-use Rattle.numbers.specs.NumberForm.{ieee}
+use borrow.Author.Needs.{needs}
 use denote.Ref.{now}
 use lib.Ieee.{binary64}
-use borrow.Author.Needs.{needs}
+use Rattle.numbers.specs.NumberForm.{ieee}
+use Rattle.machine.proofs.Products.{product-transposed-same}
+use Rattle.storage.specs.Views.{viewL}
+use Rattle.solves.proofs.Vectors.{written-as, written-over}
 use Rattle.solves.proofs.in_place.solve_transposed.Statement.{statement}
 use Rattle.solves.proofs.in_place.solve_transposed.Tie as tie
 

@@ -1,11 +1,11 @@
 -- `four_dots`: one term of each sum a turn.
-use native.Mathlib.Omega.{arith}
-use Rattle.solves.specs.Products.{rowSum}
-use Rattle.ranges.proofs.Writing.{sum-none, sum-more}
-use Prim.Native.Nat.{_-_, _≤_}
 use mathlib.Core.Path.{_≡_}
-use Rattle.numbers.specs.NumberForm.{ieee}
+use Prim.Native.Nat.{_-_, _≤_}
+use native.Mathlib.Omega.{arith}
 use lib.Ieee.{binary64}
+use Rattle.numbers.specs.NumberForm.{ieee}
+use Rattle.ranges.proofs.Writing.{sum-none, sum-more}
+use Rattle.solves.specs.Products.{rowSum}
 use Rattle.solves.proofs.products.four_dots.Statement.{statement}
 use Rattle.solves.proofs.products.four_dots.Tie as tie
 

@@ -1,15 +1,15 @@
 -- `four_products`: the four sums, stored one after another.
-use native.Mathlib.Omega.{arith}
-use Rattle.solves.proofs.Vectors.{row-product, rows-after, four-rows-fit, four-stored}
-use Rattle.storage.proofs.Lengths.{length-fits}
-use lib.ListN.{length-set}
-use native.Mathlib.Nat.{add-zero}
-use Prim.Native.Nat.{_+_}
-use mathlib.Core.Path.{refl}
-use Rattle.numbers.specs.NumberForm.{ieee}
-use denote.Ref.{now}
-use lib.Ieee.{binary64}
 use borrow.Author.Needs.{needs}
+use mathlib.Core.Path.{refl}
+use Prim.Native.Nat.{_+_}
+use native.Mathlib.Omega.{arith}
+use native.Mathlib.Nat.{add-zero}
+use denote.Ref.{now}
+use lib.ListN.{length-set}
+use lib.Ieee.{binary64}
+use Rattle.numbers.specs.NumberForm.{ieee}
+use Rattle.storage.proofs.Lengths.{length-fits}
+use Rattle.solves.proofs.Vectors.{row-product, rows-after, four-rows-fit, four-stored}
 use Rattle.solves.proofs.products.four_products.Statement.{statement}
 use Rattle.solves.proofs.products.four_products.Tie as tie
 

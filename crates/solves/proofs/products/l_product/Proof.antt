@@ -1,12 +1,12 @@
 -- `l_product`: from the start of `input`.
-use Rattle.solves.proofs.InPlace.{product-from-0}
-use Rattle.storage.specs.Views.{viewL}
-use Rattle.machine.proofs.Products.{product-same}
-use Rattle.machine.specs.Products.{product}
-use Rattle.numbers.specs.NumberForm.{ieee}
+use borrow.Author.Needs.{needs}
 use denote.Ref.{now}
 use lib.Ieee.{binary64}
-use borrow.Author.Needs.{needs}
+use Rattle.numbers.specs.NumberForm.{ieee}
+use Rattle.machine.specs.Products.{product}
+use Rattle.machine.proofs.Products.{product-same}
+use Rattle.storage.specs.Views.{viewL}
+use Rattle.solves.proofs.InPlace.{product-from-0}
 use Rattle.solves.proofs.products.l_product.Statement.{statement}
 use Rattle.solves.proofs.products.l_product.Tie as tie
 

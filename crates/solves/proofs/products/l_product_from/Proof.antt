@@ -1,19 +1,19 @@
 -- `l_product_from`: the entries that are left, one a turn.
 use borrow.Author.Needs.{needs}
-use native.Mathlib.Omega.{arith}
-use Rattle.solves.proofs.Vectors.{written-further, row-product}
-use Rattle.solves.specs.Products.{entriesFrom}
-use Rattle.ranges.proofs.Writing.{apart, written-more}
-use Rattle.ranges.specs.Written.{Written}
-use Rattle.storage.proofs.Kept.{kept-all}
-use Rattle.storage.proofs.Places.{row-before, row-fits}
-use Rattle.storage.specs.Views.{viewL}
-use Rattle.machine.specs.Products.{product}
-use Prim.Native.Nat.{_-_, _≤_}
 use mathlib.Core.Path.{_≡_, refl, _∙_}
-use Rattle.numbers.specs.NumberForm.{ieee}
+use Prim.Native.Nat.{_-_, _≤_}
+use native.Mathlib.Omega.{arith}
 use denote.Ref.{now}
 use lib.Ieee.{binary64}
+use Rattle.numbers.specs.NumberForm.{ieee}
+use Rattle.machine.specs.Products.{product}
+use Rattle.storage.specs.Views.{viewL}
+use Rattle.storage.proofs.Kept.{kept-all}
+use Rattle.storage.proofs.Places.{row-before, row-fits}
+use Rattle.ranges.specs.Written.{Written}
+use Rattle.ranges.proofs.Writing.{apart, written-more}
+use Rattle.solves.specs.Products.{entriesFrom}
+use Rattle.solves.proofs.Vectors.{written-further, row-product}
 use Rattle.solves.proofs.products.l_product_from.Statement.{statement}
 use Rattle.solves.proofs.products.l_product_from.Tie as tie
 

@@ -1,12 +1,12 @@
 -- `l_product_transposed`: from the start of `input`.
-use Rattle.solves.proofs.InPlace.{product-from-0}
-use Rattle.storage.specs.Views.{viewL}
-use Rattle.machine.proofs.Products.{product-transposed-same}
-use Rattle.machine.specs.Products.{productTransposed}
-use Rattle.numbers.specs.NumberForm.{ieee}
+use borrow.Author.Needs.{needs}
 use denote.Ref.{now}
 use lib.Ieee.{binary64}
-use borrow.Author.Needs.{needs}
+use Rattle.numbers.specs.NumberForm.{ieee}
+use Rattle.machine.specs.Products.{productTransposed}
+use Rattle.machine.proofs.Products.{product-transposed-same}
+use Rattle.storage.specs.Views.{viewL}
+use Rattle.solves.proofs.InPlace.{product-from-0}
 use Rattle.solves.proofs.products.l_product_transposed.Statement.{statement}
 use Rattle.solves.proofs.products.l_product_transposed.Tie as tie
 

@@ -1,16 +1,16 @@
 -- `l_product_transposed_from`: one row of L a turn.
-use native.Mathlib.Omega.{arith}
-use Rattle.solves.proofs.Vectors.{written-over, written-from-0, rowSums, row-sums-more, row-sums-all}
-use Rattle.solves.specs.Products.{entriesFrom}
-use Rattle.ranges.proofs.Writing.{sum-none}
-use Rattle.ranges.specs.Written.{Written}
-use Rattle.storage.proofs.Kept.{kept-all}
-use Rattle.storage.proofs.Places.{row-before, row-fits}
-use Prim.Native.Nat.{_-_, _≤_}
 use mathlib.Core.Path.{_≡_, refl, _∙_}
-use Rattle.numbers.specs.NumberForm.{ieee}
+use Prim.Native.Nat.{_-_, _≤_}
+use native.Mathlib.Omega.{arith}
 use denote.Ref.{now}
 use lib.Ieee.{binary64}
+use Rattle.numbers.specs.NumberForm.{ieee}
+use Rattle.storage.proofs.Kept.{kept-all}
+use Rattle.storage.proofs.Places.{row-before, row-fits}
+use Rattle.ranges.specs.Written.{Written}
+use Rattle.ranges.proofs.Writing.{sum-none}
+use Rattle.solves.specs.Products.{entriesFrom}
+use Rattle.solves.proofs.Vectors.{written-over, written-from-0, rowSums, row-sums-more, row-sums-all}
 use Rattle.solves.proofs.products.l_product_transposed_from.Statement.{statement}
 use Rattle.solves.proofs.products.l_product_transposed_from.Tie as tie
 

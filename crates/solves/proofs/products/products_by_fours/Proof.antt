@@ -1,14 +1,14 @@
 -- `products_by_fours`: four entries a turn.
-use native.Mathlib.Omega.{arith}
-use Rattle.solves.proofs.Vectors.{written-four}
-use Rattle.solves.specs.Products.{entriesFrom}
-use Rattle.ranges.proofs.Writing.{written-none}
-use Rattle.ranges.specs.Written.{Written}
-use Rattle.storage.specs.Views.{viewL}
-use Rattle.machine.specs.Products.{product}
 use Prim.Native.Nat.{_-_, _≤_}
-use Rattle.numbers.specs.NumberForm.{ieee}
+use native.Mathlib.Omega.{arith}
 use lib.Ieee.{binary64}
+use Rattle.numbers.specs.NumberForm.{ieee}
+use Rattle.machine.specs.Products.{product}
+use Rattle.storage.specs.Views.{viewL}
+use Rattle.ranges.specs.Written.{Written}
+use Rattle.ranges.proofs.Writing.{written-none}
+use Rattle.solves.specs.Products.{entriesFrom}
+use Rattle.solves.proofs.Vectors.{written-four}
 use Rattle.solves.proofs.products.products_by_fours.Statement.{statement}
 use Rattle.solves.proofs.products.products_by_fours.Tie as tie
 
