@@ -1,6 +1,4 @@
 // The rows of the table on factors, by the managed calls at capacity 2. L and U are printed entry by entry, U by rows of the triangle.
-ghost use Prim.Native.Nat.{_≤_};
-ghost use lib.ListN.{length};
 use crate::print::double;
 use crate::print::number;
 use crate::print::text;
@@ -32,9 +30,7 @@ fn pair(first: f64, second: f64) {
     text(b")");
 }
 
-fn factors(l: &[f64], u: &[f64])
-    requires { ⌜ (4 ≤ length (now l)) × (3 ≤ length (now u)) ⌝ }
-{
+fn factors(l: &[f64; 6], u: &[f64; 3]) {
     text(b": L ");
     pair(l[0], l[1]);
     text(b", ");
