@@ -14,3 +14,16 @@ indexAfter (refusedAt number i) old = i
 abbrev pub movedNumber : Option ℕ → ℕ
 movedNumber none = 2 ^ 64 - 1
 movedNumber (some i) = i
+
+-- the moved row and the moved column, which are written where nothing was refused
+abbrev pub movedRowAfter : Answer → ℕ → ℕ
+movedRowAfter done old = old
+movedRowAfter (moved r k) old = movedNumber r
+movedRowAfter (refused number) old = old
+movedRowAfter (refusedAt number i) old = old
+
+abbrev pub movedColumnAfter : Answer → ℕ → ℕ
+movedColumnAfter done old = old
+movedColumnAfter (moved r k) old = movedNumber k
+movedColumnAfter (refused number) old = old
+movedColumnAfter (refusedAt number i) old = old

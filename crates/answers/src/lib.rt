@@ -2,11 +2,12 @@
 ghost use mathlib.Core.Path.{_≡_};
 ghost use Rattle.machine.specs.Calls.{numberOf};
 ghost use Rattle.refusals.specs.Refusal.{refusalOf};
-ghost use Rattle.api.specs.Answers.{answerOf, movedRowOf, movedColumnOf};
-ghost use Rattle.answers.specs.Numbers.{indexAfter, movedNumber};
+ghost use Rattle.api.specs.Answers.{answerOf, movedRowOf, movedColumnOf, removeAnswerOf};
+ghost use Rattle.answers.specs.Numbers.{indexAfter, movedNumber, movedRowAfter, movedColumnAfter};
 use api::Answer;
 use api::MovedColumn;
 use api::MovedRow;
+use api::RemoveAnswer;
 use refusals::Refusal;
 
 // Document 01's number of a refusal.
@@ -76,4 +77,36 @@ pub fn column_number(moved: MovedColumn) -> usize
         MovedColumn::Moved(column) => column.0,
         MovedColumn::Nothing => 0xFFFF_FFFF_FFFF_FFFF,
     }
+}
+
+// Document 01's number of what remove answers.
+pub fn remove_number(answer: RemoveAnswer) -> u32
+    ensures { λ r. ⌜ r ≡ numberOf (removeAnswerOf answer) ⌝ }
+{
+    match answer {
+        RemoveAnswer::Removed(_) => 0,
+        RemoveAnswer::Refused(refusal) => refusal_number(refusal),
+    }
+}
+
+// The row that a remove moved, or SIZE_MAX, or where it was refused `old`.
+pub fn moved_row(answer: RemoveAnswer, old: usize) -> usize
+    ensures { λ r. ⌜ r ≡ movedRowAfter (removeAnswerOf answer) old ⌝ }
+{
+    let RemoveAnswer::Removed(removal) = answer else {
+        return old;
+    };
+    let moved = removal.moved_row;
+    row_number(moved)
+}
+
+// The same of the column.
+pub fn moved_column(answer: RemoveAnswer, old: usize) -> usize
+    ensures { λ r. ⌜ r ≡ movedColumnAfter (removeAnswerOf answer) old ⌝ }
+{
+    let RemoveAnswer::Removed(removal) = answer else {
+        return old;
+    };
+    let moved = removal.moved_column;
+    column_number(moved)
 }

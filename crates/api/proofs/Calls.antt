@@ -1,10 +1,9 @@
 -- The outcome of each call that is not refused, from what its update or solve did.
 use mathlib.Core.Path.{_≡_, refl, ap, _∙_}
-use mathlib.Core.Bool.{true, false, cond}
+use mathlib.Core.Bool.{cond}
 use mathlib.Core.List.{List, []}
 use mathlib.Core.Option.{none, some}
-use Prim.Native.Nat.{ℕ, _+_, _-_, _≤_, _<_, max}
-use native.Mathlib.Nat.{add-zero}
+use Prim.Native.Nat.{ℕ, _+_, _-_, _≤_, max}
 use native.Mathlib.Omega.{arith}
 use lib.Dec.{eqb}
 use lib.ListN.{length}
@@ -12,12 +11,11 @@ use Rattle.numbers.specs.NumberForm.{NumberForm}
 use Rattle.machine.specs.Tables.{Vector, Work, tabulate}
 use Rattle.machine.specs.Products.{entry, product, productTransposed}
 use Rattle.machine.specs.Updates.{pushed, columnReplaced, rowReplaced, removed}
-use Rattle.machine.specs.Solves.{backSubstitution, forwardSubstitution, solution, solutionTransposed}
-use Rattle.machine.specs.Calls.{Call, push, replaceRow, replaceColumn, remove, solve, solveTransposed, Answer, done, moved, isPush, isUpdate}
+use Rattle.machine.specs.Solves.{backSubstitution, forwardSubstitution, solution, solutionTransposed, diagonals}
+use Rattle.machine.specs.Calls.{push, replaceRow, replaceColumn, remove, solve, solveTransposed, Answer, done, moved, refused}
 use Rattle.machine.specs.Machine.{accepted}
 use Rattle.machine.specs.Agreement.{Agree}
 use Rattle.machine.proofs.Choice.{listed}
-use Rattle.machine.proofs.Refusals.{push-accepted, row-accepted, column-accepted, remove-accepted}
 use Rattle.storage.specs.Places.{WorkPlace, lIndex}
 use Rattle.storage.specs.Views.{viewL, viewU, Kept}
 use Rattle.storage.proofs.Kept.{kept-all}
@@ -25,11 +23,13 @@ use Rattle.storage.proofs.Places.{lIndex-not-work}
 use Rattle.ranges.specs.Written.{Written}
 use Rattle.forward.specs.Performed.{Room}
 use Rattle.stages.specs.Stages.{Updated}
-use Rattle.managed.specs.Instance.{Instance, instance, lentToSolve, view}
-use Rattle.managed.specs.Refusals.{reached, refusalAt}
+use Rattle.managed.specs.Instance.{instance, lentToSolve}
 use Rattle.managed.specs.Outcome.{UpdateFrame, SolveFrame, Outcome}
-use Rattle.managed.proofs.Refusals.{StoragePassed, accepted-storage, accepted-machine, reached-within, accepted-workspaces}
+use Rattle.managed.proofs.Refusals.{StoragePassed}
 use Rattle.managed.proofs.Outcomes.{outcome-accepted}
+use Rattle.refusals.specs.Tests.{pushTests, replacementTests, removeTests, solveTests}
+use Rattle.refusals.proofs.Passed.{solve-passed}
+use Rattle.refusals.proofs.Tested.{lengthsOf, push-tested, row-tested, column-tested, remove-tested, solve-tested, transposed-tested}
 
 module _ (N : NumberForm) where
   open NumberForm N using (Value)
@@ -38,47 +38,9 @@ module _ (N : NumberForm) where
   pub update-with : {c m k : ℕ} {R : Work Value} {l u y x z w l′ u′ y′ x′ w′ : List Value} → Updated N c m k R l u y x w l′ u′ y′ x′ w′ → Updated N c m k R l u y z w l′ u′ y′ z w′
   update-with d = record { agree = d .agree; l-kept = d .l-kept; u-kept = d .u-kept; y-kept = d .y-kept; z-kept = kept-all N; w-kept = d .w-kept }
 
-  -- ---- room for the updates
-
-  module _ (n c : ℕ) (l u y z w : List Value) where
-    abbrev s : Instance Value
-    s = instance n c l u y z w
-
-    room : (m : ℕ) → m ≤ c → StoragePassed n c (length l) (length u) → Room N c m l u
-    room m h p = record { stride = p .capacity; dimension = h; l-long = omega (arith, p .L); u-long = p .U }
-
-    pub push-room : (row column : List Value) (d : Value) → refusalAt N s (push row column d) ≡ none
-        → Room N c (n + 1) l u × (n + 1 ≤ length y) × (n + 1 ≤ length w) × (length row ≡ n) × (length column ≡ n)
-    push-room row column d e =
-        let spaces = accepted-workspaces N s (push row column d) e refl in
-        let lengths = push-accepted N (view N s) row column d (accepted-machine N s (push row column d) e) in
-        (room (n + 1) (reached-within N s (push row column d) e) (accepted-storage N s (push row column d) e), spaces .0, spaces .2, lengths .0, lengths .1)
-
-    -- the calls that keep or lower the dimension
-    stay-room : (k : Call Value) → isPush k ≡ false → isUpdate k ≡ true → refusalAt N s k ≡ none → Room N c n l u × (n ≤ length y) × (n ≤ length z) × (n ≤ length w)
-    stay-room k p up e =
-        let spaces = accepted-workspaces N s k e up in
-        let reach : reached s k ≡ n = rw (p, add-zero) refl in
-        let storage = accepted-storage N s k e in
-        (room n (storage .dimension) storage, omega (arith, reach, spaces .0), omega (arith, reach, spaces .1), omega (arith, reach, spaces .2))
-
-    pub row-room : (row : ℕ) (values : List Value) → refusalAt N s (replaceRow row values) ≡ none
-        → (Room N c n l u × (n ≤ length y) × (n ≤ length z) × (n ≤ length w)) × (row < n) × (length values ≡ n)
-    row-room row values e =
-        let given = row-accepted N (view N s) row values (accepted-machine N s (replaceRow row values) e) in
-        (stay-room (replaceRow row values) refl refl e, given .0, given .1)
-
-    pub column-room : (column : ℕ) (values : List Value) → refusalAt N s (replaceColumn column values) ≡ none
-        → (Room N c n l u × (n ≤ length y) × (n ≤ length z) × (n ≤ length w)) × (column < n) × (length values ≡ n)
-    column-room column values e =
-        let given = column-accepted N (view N s) column values (accepted-machine N s (replaceColumn column values) e) in
-        (stay-room (replaceColumn column values) refl refl e, given .0, given .1)
-
-    pub remove-room : (row column : ℕ) → refusalAt N s (remove row column) ≡ none
-        → (Room N c n l u × (n ≤ length y) × (n ≤ length z) × (n ≤ length w)) × (row < n) × (column < n)
-    remove-room row column e =
-        let given = remove-accepted N (view N s) row column (accepted-machine N s (remove row column) e) in
-        (stay-room (remove row column) refl refl e, given .0, given .1)
+  -- storage that passed the tests has room for m rows and columns
+  pub room : {n c : ℕ} {l u : List Value} (m : ℕ) → m ≤ c → StoragePassed n c (length l) (length u) → Room N c m l u
+  room m h p = record { stride = p .capacity; dimension = h; l-long = omega (arith, p .L); u-long = p .U }
 
 module _ (N : NumberForm) (E T : N .Value) where
   open NumberForm N using (Value, absent)
@@ -88,37 +50,37 @@ module _ (N : NumberForm) (E T : N .Value) where
     framed : (m k : ℕ) {p : ℕ} {R : Work Value} → max n p ≡ m → Updated N c m k R l u y z w l′ u′ y′ z′ w′ → UpdateFrame N (max n p) (instance n c l u y z w) (instance p c l′ u′ y′ z′ w′)
     framed m k e d = rw e (record { l = d .l-kept; u = d .u-kept; y = d .y-kept; z = d .z-kept; w = d .w-kept })
 
-    pub push-outcome : (row column : List Value) (d : Value) → refusalAt N (instance n c l u y z w) (push row column d) ≡ none
+    pub push-outcome : (row column : List Value) (d : Value) → pushTests n c (lengthsOf l u y z w) (length row) (length column) ≡ none
         → Updated N c (n + 1) (n + 1) (pushed N E T n (viewL N c l) (viewU N c u) row column d) l u y z w l′ u′ y′ z′ w′
         → Outcome N E T (push row column d) (instance n c l u y z w) (instance (n + 1) c l′ u′ y′ z′ w′) done []
     unfolding accepted
     push-outcome row column d e update =
-        outcome-accepted N E T (push row column d) (instance n c l u y z w) e
+        outcome-accepted N E T (push row column d) (instance n c l u y z w) (push-tested N n c l u y z w row column d ∙ e)
         (record { answer = refl; solved = refl; after = record { n = omega arith; L = update .agree .L; U = update .agree .U } }) refl (framed (n + 1) (n + 1) (omega arith) update)
 
-    pub row-outcome : (row : ℕ) (values : List Value) → refusalAt N (instance n c l u y z w) (replaceRow row values) ≡ none
+    pub row-outcome : (row : ℕ) (values : List Value) → replacementTests n c (lengthsOf l u y z w) row (refused 5) (length values) ≡ none
         → Updated N c n n (rowReplaced N E T n (viewL N c l) (viewU N c u) row values) l u y z w l′ u′ y′ z′ w′
         → Outcome N E T (replaceRow row values) (instance n c l u y z w) (instance n c l′ u′ y′ z′ w′) done []
     unfolding accepted
     row-outcome row values e update =
-        outcome-accepted N E T (replaceRow row values) (instance n c l u y z w) e
+        outcome-accepted N E T (replaceRow row values) (instance n c l u y z w) (row-tested N n c l u y z w row values ∙ e)
         (record { answer = refl; solved = refl; after = update .agree }) refl (framed n n (omega arith) update)
 
-    pub column-outcome : (column : ℕ) (values : List Value) → refusalAt N (instance n c l u y z w) (replaceColumn column values) ≡ none
+    pub column-outcome : (column : ℕ) (values : List Value) → replacementTests n c (lengthsOf l u y z w) column (refused 6) (length values) ≡ none
         → Updated N c n n (columnReplaced N E T n (viewL N c l) (viewU N c u) column values) l u y z w l′ u′ y′ z′ w′
         → Outcome N E T (replaceColumn column values) (instance n c l u y z w) (instance n c l′ u′ y′ z′ w′) done []
     unfolding accepted
     column-outcome column values e update =
-        outcome-accepted N E T (replaceColumn column values) (instance n c l u y z w) e
+        outcome-accepted N E T (replaceColumn column values) (instance n c l u y z w) (column-tested N n c l u y z w column values ∙ e)
         (record { answer = refl; solved = refl; after = update .agree }) refl (framed n n (omega arith) update)
 
-    pub remove-outcome : (row column : ℕ) {a : Answer} → refusalAt N (instance n c l u y z w) (remove row column) ≡ none
+    pub remove-outcome : (row column : ℕ) {a : Answer} → removeTests n c (lengthsOf l u y z w) row column ≡ none
         → a ≡ moved (cond (eqb row (n - 1)) none (some (n - 1))) (cond (eqb column (n - 1)) none (some (n - 1)))
         → Updated N c n (n - 1) (removed N E T (n - 1) (viewL N c l) (viewU N c u) row column) l u y z w l′ u′ y′ z′ w′
         → Outcome N E T (remove row column) (instance n c l u y z w) (instance (n - 1) c l′ u′ y′ z′ w′) a []
     unfolding accepted
     remove-outcome row column e is-a update =
-        outcome-accepted N E T (remove row column) (instance n c l u y z w) e
+        outcome-accepted N E T (remove row column) (instance n c l u y z w) (remove-tested N n c l u y z w row column ∙ e)
         (record { answer = is-a; solved = refl; after = update .agree }) refl (framed n (n - 1) (omega arith) update)
 
   -- ---- solves
@@ -140,17 +102,19 @@ module _ (N : NumberForm) (E T : N .Value) where
     solve-framed : SolveFrame N (lentToSolve n c l u) (lentToSolve n c l′ u)
     solve-framed = record { l = kept; u = refl; y = refl; z = refl; w = refl }
 
-    pub solve-outcome : (b : List Value) {b′ : List Value} → length b ≡ n → refusalAt N (lentToSolve n c l u) (solve b) ≡ none → Written N (λ i. i) n (backSubstitution N n (viewU N c u) (product N n (viewL N c l) (entry N b)) n) b b′
+    pub solve-outcome : (b : List Value) {b′ : List Value} → solveTests n c (length l) (length u) (length b) (diagonals N (viewU N c u) n) ≡ none → Written N (λ i. i) n (backSubstitution N n (viewU N c u) (product N n (viewL N c l) (entry N b)) n) b b′
         → Outcome N E T (solve b) (lentToSolve n c l u) (lentToSolve n c l′ u) done b′
     unfolding accepted solution
-    solve-outcome b long e h =
-        outcome-accepted N E T (solve b) (lentToSolve n c l u) e
-        (record { answer = refl; solved = whole long h; after = standing (accepted-storage N (lentToSolve n c l u) (solve b) e .dimension) }) refl solve-framed
+    solve-outcome b e h =
+        let passed = solve-passed n c (length l) (length u) (length b) _ e in
+        outcome-accepted N E T (solve b) (lentToSolve n c l u) (solve-tested N n c l u b ∙ e)
+        (record { answer = refl; solved = whole (passed .1) h; after = standing (passed .0 .dimension) }) refl solve-framed
 
-    pub transposed-outcome : (b : List Value) {b′ : List Value} → length b ≡ n → refusalAt N (lentToSolve n c l u) (solveTransposed b) ≡ none
+    pub transposed-outcome : (b : List Value) {b′ : List Value} → solveTests n c (length l) (length u) (length b) (diagonals N (viewU N c u) n) ≡ none
         → Written N (λ i. i) n (productTransposed N n (viewL N c l) (forwardSubstitution N (viewU N c u) (entry N b) n)) b b′
         → Outcome N E T (solveTransposed b) (lentToSolve n c l u) (lentToSolve n c l′ u) done b′
     unfolding accepted solutionTransposed
-    transposed-outcome b long e h =
-        outcome-accepted N E T (solveTransposed b) (lentToSolve n c l u) e
-        (record { answer = refl; solved = whole long h; after = standing (accepted-storage N (lentToSolve n c l u) (solveTransposed b) e .dimension) }) refl solve-framed
+    transposed-outcome b e h =
+        let passed = solve-passed n c (length l) (length u) (length b) _ e in
+        outcome-accepted N E T (solveTransposed b) (lentToSolve n c l u) (transposed-tested N n c l u b ∙ e)
+        (record { answer = refl; solved = whole (passed .1) h; after = standing (passed .0 .dimension) }) refl solve-framed

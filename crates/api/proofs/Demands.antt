@@ -1,8 +1,9 @@
 -- Demands 1 and 3 hold, at the doubles with the managed tolerances.
-use mathlib.Core.Path.{_≡_, sym, _∙_, refl}
+use mathlib.Core.Path.{_≡_, sym, _∙_}
 use mathlib.Core.Option.{Option}
 use Prim.Native.Nat.{ℕ}
 use lib.Ieee.{Float, binary64}
+use lib.ListN.{length}
 use Rattle.numbers.specs.NumberForm.{ieee}
 use Rattle.numbers.specs.Tolerances.{managedEpsilon, managedTiny}
 use Rattle.machine.specs.Tables.{Table}
@@ -13,7 +14,7 @@ use Rattle.storage.specs.Views.{viewU}
 use Rattle.managed.proofs.Accepted.{accepted-same, accepted-number}
 use Rattle.managed.proofs.Refused.{refused-untouched, refused-number}
 use Rattle.managed.proofs.ListClaim.{list-claim}
-use Rattle.refusals.proofs.Chain.{diagonal-decides}
+use Rattle.refusals.proofs.Tested.{solve-tested, transposed-tested, diagonals-decide}
 use Rattle.api.specs.Demands.{RefusedByDiagonal, Demand1, Demand3}
 
 -- the search along the diagonal
@@ -31,8 +32,8 @@ demand-1 = record {
   refused = λ c s t a b o r e.
       let h = refused-untouched (ieee binary64) (managedEpsilon binary64) (managedTiny binary64) o r e in
       (h .0, refused-number (ieee binary64) (managedEpsilon binary64) (managedTiny binary64) o r e, h .1, h .2);
-  solve-refused = λ n c l u b storage long. by-diagonal (viewU (ieee binary64) c u) n _ (diagonal-decides (ieee binary64) n c l u b storage long refl .0);
-  transpose-solve-refused = λ n c l u b storage long. by-diagonal (viewU (ieee binary64) c u) n _ (diagonal-decides (ieee binary64) n c l u b storage long refl .1);
+  solve-refused = λ n c l u b storage long. by-diagonal (viewU (ieee binary64) c u) n _ (sym (solve-tested (ieee binary64) n c l u b ∙ diagonals-decide n c (length l) (length u) (length b) _ storage long));
+  transpose-solve-refused = λ n c l u b storage long. by-diagonal (viewU (ieee binary64) c u) n _ (sym (transposed-tested (ieee binary64) n c l u b ∙ diagonals-decide n c (length l) (length u) (length b) _ storage long));
 }
 
 pub demand-3 : Demand3

@@ -15,18 +15,19 @@ ghost use Rattle.managed.specs.Instance.{instance, lentToSolve};
 ghost use Rattle.managed.specs.Refusals.{storageTests};
 ghost use Rattle.api.specs.Answers.{adoptionOf, adoptedUnder, readinessOf, readyUnder, answerOf, movedRowOf, movedColumnOf, removeAnswerOf};
 ghost use Rattle.api.specs.Demands.{ManagedOutcome};
+use diagonals::Diagonal;
+use diagonals::test_diagonal;
+use numerics::tolerance::managed;
+use refusals::LentLengths;
 use refusals::Refusal;
 use refusals::Test;
 use refusals::test_push;
 use refusals::test_remove;
-use refusals::test_replace_column;
-use refusals::test_replace_row;
+use refusals::test_replacement;
 use refusals::test_solve;
 use refusals::test_storage;
-use solves::diagonal::Diagonal;
-use solves::diagonal::test_diagonal;
-use solves::in_place::solve;
-use solves::in_place::solve_transposed;
+use solves::solve;
+use solves::solve_transposed;
 use storage::RequiredLengths;
 use storage::storage_lengths;
 
@@ -205,14 +206,21 @@ impl LuMod {
     {
         let n = self.n;
         let capacity = self.capacity;
-        let test = test_push(n, capacity, l, u, y, z, w, row, column);
+        let lent = LentLengths {
+            l: l.len(),
+            u: u.len(),
+            y: y.len(),
+            z: z.len(),
+            w: w.len(),
+        };
+        let test = test_push(n, capacity, lent, row.len(), column.len());
         if let Test::Refused(refusal) = test {
             return CallResult {
                 state: self,
                 answer: Answer::Refused(refusal),
             };
         }
-        updates::push(n, capacity, l, u, y, w, row, column, diagonal);
+        copied_data::push(n, capacity, l, u, y, w, row, column, diagonal);
         CallResult {
             state: LuMod { n: n + 1, capacity },
             answer: Answer::Done,
@@ -236,14 +244,22 @@ impl LuMod {
     {
         let n = self.n;
         let capacity = self.capacity;
-        let test = test_replace_row(n, capacity, l, u, y, z, w, row.0, values);
+        let lent = LentLengths {
+            l: l.len(),
+            u: u.len(),
+            y: y.len(),
+            z: z.len(),
+            w: w.len(),
+        };
+        let outside = Refusal::RowOutOfBounds;
+        let test = test_replacement(n, capacity, lent, row.0, outside, values.len());
         if let Test::Refused(refusal) = test {
             return CallResult {
                 state: self,
                 answer: Answer::Refused(refusal),
             };
         }
-        updates::replace_row(row.0, n, capacity, l, u, y, z, w, values);
+        copied_data::replace_row(row.0, n, capacity, l, u, y, z, w, values);
         CallResult {
             state: self,
             answer: Answer::Done,
@@ -267,14 +283,22 @@ impl LuMod {
     {
         let n = self.n;
         let capacity = self.capacity;
-        let test = test_replace_column(n, capacity, l, u, y, z, w, column.0, values);
+        let lent = LentLengths {
+            l: l.len(),
+            u: u.len(),
+            y: y.len(),
+            z: z.len(),
+            w: w.len(),
+        };
+        let outside = Refusal::ColumnOutOfBounds;
+        let test = test_replacement(n, capacity, lent, column.0, outside, values.len());
         if let Test::Refused(refusal) = test {
             return CallResult {
                 state: self,
                 answer: Answer::Refused(refusal),
             };
         }
-        updates::replace_column(column.0, n, capacity, l, u, y, w, values);
+        update_column::replace_column(column.0, n, capacity, l, u, y, values, w, managed());
         CallResult {
             state: self,
             answer: Answer::Done,
@@ -299,14 +323,21 @@ impl LuMod {
     {
         let n = self.n;
         let capacity = self.capacity;
-        let test = test_remove(n, capacity, l, u, y, z, w, row.0, column.0);
+        let lent = LentLengths {
+            l: l.len(),
+            u: u.len(),
+            y: y.len(),
+            z: z.len(),
+            w: w.len(),
+        };
+        let test = test_remove(n, capacity, lent, row.0, column.0);
         if let Test::Refused(refusal) = test {
             return RemoveResult {
                 state: self,
                 answer: RemoveAnswer::Refused(refusal),
             };
         }
-        updates::remove(row.0, column.0, n, capacity, l, u, y, z, w);
+        update_remove::remove(row.0, column.0, n, capacity, l, u, y, z, w, managed());
         let last = n - 1;
         RemoveResult {
             state: LuMod { n: last, capacity },
@@ -322,7 +353,7 @@ impl LuMod {
     {
         let n = self.n;
         let capacity = self.capacity;
-        let test = test_solve(n, capacity, l, u, rhs);
+        let test = test_solve(n, capacity, l.len(), u, rhs.len());
         if let Test::Refused(refusal) = test {
             return CallResult {
                 state: self,
@@ -343,7 +374,7 @@ impl LuMod {
     {
         let n = self.n;
         let capacity = self.capacity;
-        let test = test_solve(n, capacity, l, u, rhs);
+        let test = test_solve(n, capacity, l.len(), u, rhs.len());
         if let Test::Refused(refusal) = test {
             return CallResult {
                 state: self,

@@ -6,15 +6,13 @@ ghost use lib.Ieee.{binary64};
 ghost use Rattle.numbers.specs.NumberForm.{ieee};
 ghost use Rattle.numbers.specs.Tolerances.{tinyOf};
 ghost use Rattle.machine.specs.Products.{entry};
-ghost use Rattle.machine.specs.Backward.{backwardRow, backwardRows};
+ghost use Rattle.machine.specs.Backward.{backwardRows};
 ghost use Rattle.machine.specs.Backward;
 ghost use Rattle.forward.specs.Performed.{Room, Performed};
-use numerics::pair::elementary;
+use backward_row::backward_row;
 use numerics::real::abs;
 use numerics::tolerance::Numerics;
 use ranges::copy;
-use ranges::transform_rows;
-use ranges::transform_slices;
 use storage::u_index;
 
 // From `last` down to `first`, past entries of v that are at most epsilon.
@@ -27,37 +25,6 @@ pub fn trim(first: usize, last: usize, v: &[f64], epsilon: f64) -> usize
         selected -= 1;
     }
     selected
-}
-
-// One row: y[row] becomes +0; then a pair step on v[selected] and v[row], applied to y and U's row, and to L's rows `selected` and `row`, unless v[row] is negligible.
-pub fn backward_row(
-    row: usize,
-    selected: usize,
-    n: usize,
-    columns: usize,
-    stride: usize,
-    l: &mut [f64],
-    u: &mut [f64],
-    y: &mut [f64],
-    v: &mut [f64],
-    numerics: Numerics,
-)
-    requires { ⌜ Room (ieee binary64) stride n (now l) (now u) × ((columns ≤ length (now y)) × ((n ≤ length (now v)) × ((row < selected) × ((selected < n) × ((selected ≤ columns) × (columns ≤ n)))))) ⌝ }
-    ensures { λ _. ⌜ Performed (ieee binary64) stride n row columns n (backwardRow (ieee binary64) (numerics .epsilon) (tinyOf binary64 (numerics .epsilon) (numerics .«update_tiny»)) selected columns row)
-        (now (l .entry)) (now (u .entry)) (now (y .entry)) (now (v .entry)) (now (l .exit)) (now (u .exit)) (now (y .exit)) (now (v .exit)) ⌝ }
-{
-    y[row] = 0.0;
-    let mut pivot = v[selected];
-    let mut value = v[row];
-    if abs(value) <= numerics.epsilon * abs(pivot) {
-        return;
-    }
-    let transform = elementary(&mut pivot, &mut value, numerics);
-    v[selected] = pivot;
-    v[row] = value;
-    let diagonal = u_index(row, row, stride);
-    transform_slices(y, row, u, diagonal, columns - row, transform);
-    transform_rows(l, selected * stride, row * stride, n, transform);
 }
 
 // The rows from selected - 1 down to `first`.

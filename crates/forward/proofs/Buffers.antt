@@ -16,7 +16,8 @@ use Rattle.storage.specs.Places.{lIndex, LPlace}
 use Rattle.storage.specs.Views.{viewL, Kept}
 use Rattle.storage.proofs.Kept.{kept-all, kept-then, kept-more}
 use Rattle.storage.proofs.Places.{lIndex-injective}
-use Rattle.ranges.specs.Written.{from, Among, RowsTransformed}
+use Rattle.ranges.specs.Written.{from, Among}
+use Rattle.transforms.specs.RowsTransformed.{RowsTransformed}
 use Rattle.forward.specs.Performed.{workOf, Performed}
 
 module _ (N : NumberForm) where

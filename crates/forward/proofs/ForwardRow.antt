@@ -20,9 +20,10 @@ use Rattle.storage.specs.Places.{uIndex}
 use Rattle.storage.specs.Views.{viewU, Kept}
 use Rattle.storage.proofs.Kept.{kept-all, kept-set, kept-then, kept-more}
 use Rattle.storage.proofs.Places.{uIndex-along, uIndex-injective}
-use Rattle.ranges.specs.Written.{from, Written, RowsTransformed}
+use Rattle.ranges.specs.Written.{from, Written}
+use Rattle.transforms.specs.RowsTransformed.{RowsTransformed}
+use Rattle.ranges.proofs.RowParts.{part-place, outside-part, part-free, left-out}
 use Rattle.forward.specs.Performed.{workOf, Performed}
-use Rattle.forward.proofs.RowParts.{part-place, outside-part, part-free, left-out}
 use Rattle.forward.proofs.Buffers.{l-transformed, l-transformed-kept}
 
 module _ (N : NumberForm) where

@@ -1,4 +1,3 @@
--- Buffers composes steps; RowParts and ForwardRow say what the operations on rows do to the tables that the buffers hold.
-pub mod RowParts
+-- Buffers composes steps; ForwardRow says what the operations on rows do to the tables that the buffers hold.
 pub mod Buffers
 pub mod ForwardRow

@@ -12,9 +12,9 @@ use numerics::pair::elementary;
 use numerics::real::abs;
 use numerics::tolerance::Numerics;
 use ranges::copy;
-use ranges::transform_rows;
-use ranges::transform_slices;
 use storage::u_index;
+use transforms::transform_rows;
+use transforms::transform_slices;
 
 // One row: a pair step on U(row, row) and y[row], applied to the rest of the row and to L's rows `row` and `last`, unless y[row] is negligible.
 pub fn forward_row(

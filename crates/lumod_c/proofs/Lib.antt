@@ -1,4 +1,4 @@
--- Tests is about what a refusal that was or was not given tells, Calls about the machine's step for each mode, Returns about the managed calls.
+-- Tests is about what a refusal that was or was not given tells, Modes about the product and the solve that a mode names, Returns about the managed calls.
 pub mod Tests
-pub mod Calls
+pub mod Modes
 pub mod Returns

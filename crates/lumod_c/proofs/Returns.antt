@@ -12,10 +12,7 @@ use Rattle.managed.specs.Instance.{Instance, instance, view}
 use Rattle.managed.proofs.Outcomes.{dimension-stays}
 use Rattle.api.specs.Answers.{AdoptionAnswer, adopted, notAdopted, adoptedUnder}
 use Rattle.api.specs.Demands.{ManagedOutcome}
-use Rattle.refusals.specs.declared.Refusal.{Refusal}
-use Rattle.refusals.specs.declared.Refusal.the-variants.{InvalidDimension, SizeOverflow, InsufficientStorage, CapacityExceeded, RowOutOfBounds, ColumnOutOfBounds, LengthMismatch, InsufficientWorkspace, Singular, NonFiniteDiagonal}
-use Rattle.refusals.specs.Refusal.{refusalOf}
-use Rattle.lumod_c.specs.Managed.{movedRowAfter, movedColumnAfter, Returned}
+use Rattle.lumod_c.specs.Managed.{Returned}
 
 -- a call that keeps the dimension
 abbrev Stays : Call Float → Instance Float → Type 0
@@ -60,16 +57,3 @@ adoptionNumber (notAdopted a) = numberOf a
 pub adoption-number : {p : AdoptionAnswer} (o : Option Answer) (n c : ℕ) → p ≡ adoptedUnder o n c → adoptionNumber p ≡ refusalNumber o
 adoption-number none n c e = ap adoptionNumber e
 adoption-number (some a) n c e = ap adoptionNumber e
-
--- no refusal reports what moved
-pub refusal-moves-nothing : (r : Refusal) (row column : ℕ) → (row ≡ movedRowAfter (refusalOf r) row) × (column ≡ movedColumnAfter (refusalOf r) column)
-refusal-moves-nothing InvalidDimension row column = (refl, refl)
-refusal-moves-nothing SizeOverflow row column = (refl, refl)
-refusal-moves-nothing InsufficientStorage row column = (refl, refl)
-refusal-moves-nothing CapacityExceeded row column = (refl, refl)
-refusal-moves-nothing RowOutOfBounds row column = (refl, refl)
-refusal-moves-nothing ColumnOutOfBounds row column = (refl, refl)
-refusal-moves-nothing LengthMismatch row column = (refl, refl)
-refusal-moves-nothing InsufficientWorkspace row column = (refl, refl)
-refusal-moves-nothing (Singular i) row column = (refl, refl)
-refusal-moves-nothing (NonFiniteDiagonal i) row column = (refl, refl)

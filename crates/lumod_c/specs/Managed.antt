@@ -4,25 +4,11 @@ use mathlib.Core.Bool.{cond}
 use mathlib.Core.List.{List}
 use Prim.Native.Nat.{ℕ}
 use lib.Ieee.{Float}
-use Rattle.machine.specs.Calls.{Call, Answer, done, moved, refused, refusedAt, numberOf}
+use Rattle.machine.specs.Calls.{Call, Answer, numberOf}
 use Rattle.storage.specs.Lengths as storage
 use Rattle.managed.specs.Instance.{Instance}
-use Rattle.answers.specs.Numbers.{movedNumber}
 use Rattle.api.specs.Answers.{ReadyAnswer, answered, notAnswered}
 use Rattle.api.specs.Demands.{ManagedOutcome}
-
--- the moved row and the moved column, which are written where nothing was refused
-abbrev pub movedRowAfter : Answer → ℕ → ℕ
-movedRowAfter done old = old
-movedRowAfter (moved r k) old = movedNumber r
-movedRowAfter (refused number) old = old
-movedRowAfter (refusedAt number i) old = old
-
-abbrev pub movedColumnAfter : Answer → ℕ → ℕ
-movedColumnAfter done old = old
-movedColumnAfter (moved r k) old = movedNumber k
-movedColumnAfter (refused number) old = old
-movedColumnAfter (refusedAt number i) old = old
 
 -- A call returns the number of its answer; `Out` says what that answer leaves in the out-parameters.
 pub record Returned (c : Call Float) (s t : Instance Float) (b : List Float) (Out : Answer → Type 0) (number : ℕ) : Type 0 where

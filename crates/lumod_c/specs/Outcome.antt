@@ -3,29 +3,20 @@ use mathlib.Core.Path.{_≡_}
 use mathlib.Core.Bool.{cond}
 use mathlib.Core.List.{List}
 use mathlib.Core.Option.{Option, none, some}
-use Prim.Native.Nat.{ℕ, _-_, _<_}
+use Prim.Native.Nat.{ℕ}
 use lib.Dec.{eqb}
 use lib.IntN.{ℤ}
 use lib.ListN.{length}
 use Rattle.numbers.specs.NumberForm.{NumberForm}
-use Rattle.machine.specs.Tables.{Vector, State, tabulate}
+use Rattle.machine.specs.Tables.{Vector}
 use Rattle.machine.specs.Products.{entry, product, productTransposed}
 use Rattle.machine.specs.Solves.{backSubstitution, forwardSubstitution}
-use Rattle.machine.specs.Calls.{Call, push, replaceRow, replaceColumn, remove, Answer, refusalNumber}
-use Rattle.machine.specs.Machine.{step}
-use Rattle.machine.specs.Agreement.{Agree}
-use Rattle.storage.specs.Places.{LPlace, UPlace}
-use Rattle.storage.specs.Views.{viewL, viewU, Kept}
+use Rattle.machine.specs.Calls.{Answer, refusalNumber}
+use Rattle.storage.specs.Views.{viewL, viewU}
 use Rattle.ranges.specs.Written.{Written}
+use Rattle.modes.specs.UpdateDone.{UpdateDone}
 use Rattle.zero_based.specs.Numbers.{sizeOf, strideOf}
 use Rattle.zero_based.specs.Refusals.{updateRefusal, productRefusal, solveRefusal}
-
--- n is the new dimension of a push; a remove leaves one less
-abbrev pub dimensionBefore : ℕ → ℕ → ℕ
-dimensionBefore mode n = cond (eqb mode 1) (n - 1) n
-
-abbrev pub dimensionAfter : ℕ → ℕ → ℕ
-dimensionAfter mode n = cond (eqb mode 4) (n - 1) n
 
 -- A call that a test refuses returns the refusal's number and leaves all untouched; any other returns 0 and is performed.
 pub record Outcome (refusal : Option Answer) (Untouched Performed : Type 0) (answer : ℕ) : Type 0 where
@@ -35,18 +26,6 @@ pub record Outcome (refusal : Option Answer) (Untouched Performed : Type 0) (ans
 
 module _ (N : NumberForm) where
   open NumberForm N using (Value)
-
-  -- the state that buffers of stride c hold at dimension n
-  abbrev pub stateAt : ℕ → ℕ → List Value → List Value → State Value
-  stateAt c n l u = record { n = n; L = viewL N c l; U = viewU N c u }
-
-  -- Modes 1 to 4 are push (row and diagonal in y, column in z), replace column (z), replace row (y), remove.
-  unfoldable pub callOf : ℕ → ℕ → ℕ → ℕ → List Value → List Value → Call Value
-  callOf mode n row column y z =
-      cond (eqb mode 1) (push (tabulate (n - 1) (entry N y)) (tabulate (n - 1) (entry N z)) (entry N y (n - 1)))
-      (cond (eqb mode 2) (replaceColumn column (tabulate n (entry N z)))
-      (cond (eqb mode 3) (replaceRow row (tabulate n (entry N y)))
-      (remove row column)))
 
   -- mode 1 is plain, any other mode transposed
   unfoldable pub productOf : ℕ → ℕ → ℕ → List Value → List Value → Vector Value
@@ -81,20 +60,10 @@ module _ (N : NumberForm) where
 module _ (N : NumberForm) (E T : N .Value) where
   open NumberForm N using (Value)
 
-  -- The factors are those of the machine's step. Outside the entries that are active at the larger dimension n, and from n on in the vectors, all is as it
-  -- was.
-  pub record UpdateDone (mode c n row column : ℕ) (l u y z w l′ u′ y′ z′ w′ : List Value) : Type 0 where
-    pub factors : Agree (stateAt N c (dimensionAfter mode n) l′ u′) (step N E T (stateAt N c (dimensionBefore mode n) l u) (callOf N mode n row column y z) .after)
-    pub l-kept : Kept N (LPlace c n) l l′
-    pub u-kept : Kept N (UPlace c n) u u′
-    pub y-kept : Kept N (λ q. q < n) y y′
-    pub z-kept : Kept N (λ q. q < n) z z′
-    pub w-kept : Kept N (λ q. q < n) w w′
-
   -- `LUmod`
   abbrev pub UpdateOutcome : ℤ → ℤ → ℤ → ℤ → ℤ → List Value → List Value → List Value → List Value → List Value
       → List Value → List Value → List Value → List Value → List Value → ℕ → Type 0
   UpdateOutcome mode maxmod n krow kcol l u y z w l′ u′ y′ z′ w′ answer =
       Outcome (updateRefusal mode maxmod n krow kcol (length l) (length u) (length y) (length z) (length w)) (Untouched N l u y z w l′ u′ y′ z′ w′)
-      (UpdateDone (sizeOf mode) (strideOf maxmod) (sizeOf n) (sizeOf krow) (sizeOf kcol) l u y z w l′ u′ y′ z′ w′)
+      (UpdateDone N E T (sizeOf mode) (strideOf maxmod) (sizeOf n) (sizeOf krow) (sizeOf kcol) l u y z w l′ u′ y′ z′ w′)
       answer

@@ -4,11 +4,11 @@ ghost use lib.Ieee.{binary64};
 ghost use Rattle.numbers.specs.NumberForm.{ieee};
 ghost use Rattle.numbers.specs.Tolerances.{zeroBasedEpsilon, zeroBasedTiny};
 ghost use Rattle.lumod_c.specs.Outcome.{ProductOutcome, SolveOutcome, UpdateOutcome};
-use solves::products::l_product;
-use solves::products::l_product_transposed;
-use solves::substitution::back_substitute;
-use solves::substitution::forward_substitute;
-use update::perform;
+use modes::perform;
+use products::l_product;
+use products::l_product_transposed;
+use substitutions::back_substitute;
+use substitutions::forward_substitute;
 use zero_based::passed_over;
 use zero_based::product_lacks_room;
 use zero_based::size;
@@ -17,7 +17,6 @@ use zero_based::stride;
 use zero_based::update_lacks_room;
 
 pub mod managed_calls;
-mod update;
 
 // Updates the factors. Mode 1 appends a row and a column (n is the new dimension; row and diagonal in y, column in z), 2 replaces column kcol by z, 3 replaces
 // row krow by y, 4 removes row krow and column kcol. 11 where n, mode or an index is out of range, 12 where a buffer is too short; then nothing is written.

@@ -10,19 +10,17 @@ ghost use Rattle.storage.specs.Lengths.{requiredLengths};
 ghost use Rattle.storage.specs.Views.{viewU};
 ghost use Rattle.managed.specs.Instance.{instance, lentToSolve};
 ghost use Rattle.managed.specs.Refusals.{storageTests};
-ghost use Rattle.answers.specs.Numbers.{indexAfter};
+ghost use Rattle.answers.specs.Numbers.{indexAfter, movedRowAfter, movedColumnAfter};
 ghost use Rattle.api.specs.Answers.{readyUnder};
-ghost use Rattle.lumod_c.specs.Managed.{movedRowAfter, movedColumnAfter, Returned, NoOut, LengthsReturned, ReadyReturned};
+ghost use Rattle.lumod_c.specs.Managed.{Returned, NoOut, LengthsReturned, ReadyReturned};
 use answers::answer_number;
-use answers::column_number;
 use answers::named_index;
 use answers::refusal_number;
-use answers::row_number;
+use answers::remove_number;
 use api::Adoption;
 use api::ColumnIndex;
 use api::LuMod;
 use api::Readiness;
-use api::RemoveAnswer;
 use api::RowIndex;
 use storage::RequiredLengths;
 
@@ -142,16 +140,9 @@ pub extern "C" fn lumod_remove(
     let result = state.remove(l, u, y, z, w, RowIndex(row), ColumnIndex(column));
     *n = result.state.n;
     let answer = result.answer;
-    match answer {
-        RemoveAnswer::Removed(removal) => {
-            let row = removal.moved_row;
-            let column = removal.moved_column;
-            *moved_row = row_number(row);
-            *moved_column = column_number(column);
-            0
-        }
-        RemoveAnswer::Refused(refusal) => refusal_number(refusal),
-    }
+    *moved_row = answers::moved_row(answer, *moved_row);
+    *moved_column = answers::moved_column(answer, *moved_column);
+    remove_number(answer)
 }
 
 // Solves in place.

@@ -92,24 +92,9 @@ module _ (N : NumberForm) (s : Instance (N .Value)) (c : Call (N .Value)) (e : r
   pub accepted-storage : StoragePassed (s .n) (s .c) (length (s .l)) (length (s .u))
   accepted-storage = storage-passed (s .n) (s .c) (length (s .l)) (length (s .u)) (lent-passed .0)
 
-  -- nor does the plain machine
-  pub accepted-machine : refusal N (view N s) c ≡ none
-  accepted-machine = after-lent .1
-
   pub reached-within : reached s c ≤ s .c
   reached-within = go (isPush c) (accepted-storage .dimension) (refuse-if-none (isPush c && eqb (s .n) (s .c)) 4 (after-lent .0))
     where
       go : (p : Bool) → s .n ≤ s .c → So (not (p && eqb (s .n) (s .c))) → s .n + cond p 1 0 ≤ s .c
       go true h k = omega (arith, neqb→ne (s .n) (s .c) k)
       go false h k = omega arith
-
-  -- an update has the workspace that it needs
-  module _ (update : isUpdate c ≡ true) where
-    equal-workspaces : (length (s .y) ≡ length (s .z)) × (length (s .y) ≡ length (s .w))
-    equal-workspaces = workspaces-passed (length (s .y)) (length (s .z)) (length (s .w)) (rw update at (lent-passed .1))
-
-    pub accepted-workspaces : (reached s c ≤ length (s .y)) × (reached s c ≤ length (s .z)) × (reached s c ≤ length (s .w))
-    accepted-workspaces =
-        let h = nltb→le (length (s .y)) (reached s c) (refuse-if-none (ltb (length (s .y)) (reached s c)) 8 (rw update at (after-lent .2))) in
-        let same = equal-workspaces in
-        (h, omega (arith, same .0), omega (arith, same .1))

@@ -1,11 +1,9 @@
 -- What a function that stores into a slice leaves there, at every place.
 use mathlib.Core.Path.{_≡_}
-use mathlib.Core.Bool.{Bool}
 use mathlib.Core.List.{List}
-use mathlib.Core.Logic.{_⊎_}
 use Prim.Native.Nat.{ℕ, _+_, _<_}
 use Rattle.numbers.specs.NumberForm.{NumberForm}
-use Rattle.numbers.specs.PairStep.{first, second}
+use Rattle.numbers.specs.PairStep.{first}
 use Rattle.machine.specs.Tables.{Vector}
 use Rattle.machine.specs.Products.{entry}
 use Rattle.storage.specs.Views.{Kept}
@@ -25,9 +23,3 @@ module _ (N : NumberForm) where
   pub record Written (place : ℕ → ℕ) (count : ℕ) (f : Vector Value) (old new : List Value) : Type 0 where
     pub value : (k : ℕ) → k < count → entry N new (place k) ≡ f k
     pub kept : Kept N (Among place count) old new
-
-  -- a pair step with that swap and m applied to `count` pairs of one slice, from x (first) and from y (second) on
-  pub record RowsTransformed (swap : Bool) (m : Value) (x y count : ℕ) (old new : List Value) : Type 0 where
-    pub firsts : (k : ℕ) → k < count → entry N new (x + k) ≡ first N swap (entry N old (x + k)) (entry N old (y + k))
-    pub seconds : (k : ℕ) → k < count → entry N new (y + k) ≡ second N swap m (entry N old (x + k)) (entry N old (y + k))
-    pub kept : Kept N (λ q. Among (from x) count q ⊎ Among (from y) count q) old new

@@ -1,15 +1,16 @@
 // The tests of the managed calls, each in document 01's order. A test only reads.
 ghost use mathlib.Core.Path.{_≡_};
-ghost use lib.Ieee.{Float, binary64};
-ghost use lib.Dec.{ltb, eqb};
-ghost use mathlib.Core.Bool.{not};
+ghost use Prim.Native.Nat.{_^_, _≤_, _<_};
+ghost use lib.ListN.{length};
+ghost use lib.Ieee.{binary64};
 ghost use Rattle.numbers.specs.NumberForm.{ieee};
-ghost use Rattle.machine.specs.Calls.{push, replaceRow, replaceColumn, remove, solve, solveTransposed, _orElse_, refuseIf};
-ghost use Rattle.managed.specs.Instance.{instance, lentToSolve};
-ghost use Rattle.managed.specs.Refusals.{storageTests, workspaceTests, refusalAt};
-ghost use Rattle.refusals.specs.Refusal.{testOf};
-use solves::diagonal::Diagonal;
-use solves::diagonal::test_diagonal;
+ghost use Rattle.machine.specs.Solves.{diagonals};
+ghost use Rattle.storage.specs.Views.{viewU};
+ghost use Rattle.managed.specs.Refusals.{storageTests};
+ghost use Rattle.refusals.specs.Refusal.{refusalOf, testOf};
+ghost use Rattle.refusals.specs.Tests.{lentTests, pushTests, replacementTests, removeTests, solveTests};
+use diagonals::Diagonal;
+use diagonals::test_diagonal;
 use storage::RequiredLengths;
 use storage::storage_lengths;
 
@@ -27,9 +28,19 @@ pub enum Refusal {
     NonFiniteDiagonal(usize),
 }
 
+// What a test answers.
 pub enum Test {
     Passed,
     Refused(Refusal),
+}
+
+// The lengths of what an update is lent: L, U and the three workspaces.
+pub struct LentLengths {
+    pub l: usize,
+    pub u: usize,
+    pub y: usize,
+    pub z: usize,
+    pub w: usize,
 }
 
 // 1, 2 and 3 for a dimension, a capacity and the lengths of L and U.
@@ -52,134 +63,80 @@ pub fn test_storage(n: usize, capacity: usize, l: usize, u: usize) -> Test
     Test::Passed
 }
 
-// What an update lends: 1, 2 and 3 for its storage, then 3 for the lengths of its workspaces.
-fn test_lent(n: usize, capacity: usize, l: usize, u: usize, y: usize, z: usize, w: usize) -> Test
-    ensures { λ r. ⌜ testOf r ≡ (storageTests n capacity l u orElse workspaceTests y z w) ⌝ }
+// What an update lends: 1, 2 and 3 for its storage, then 3 for its workspaces.
+fn test_lent(n: usize, capacity: usize, lent: LentLengths) -> Test
+    ensures { λ r. ⌜ testOf r ≡ lentTests n capacity lent ⌝ }
 {
-    let storage = test_storage(n, capacity, l, u);
+    let storage = test_storage(n, capacity, lent.l, lent.u);
     let Test::Passed = storage else {
         return storage;
     };
-    if y != z {
+    if lent.y != lent.z {
         return Test::Refused(Refusal::InsufficientStorage);
     }
-    if y != w {
+    if lent.y != lent.w {
         return Test::Refused(Refusal::InsufficientStorage);
     }
     Test::Passed
 }
 
-// Push: 4, 7, 8.
-pub fn test_push(
-    n: usize,
-    capacity: usize,
-    l: &[f64],
-    u: &[f64],
-    y: &[f64],
-    z: &[f64],
-    w: &[f64],
-    row: &[f64],
-    column: &[f64],
-) -> Test
-    ensures { λ r. ⌜ ((d : Float) → testOf r ≡ refusalAt (ieee binary64) (instance n capacity (now (l .entry)) (now (u .entry)) (now (y .entry)) (now (z .entry)) (now (w .entry))) (push (now (row .entry)) (now (column .entry)) d)) ⌝ }
+// Push, with the lengths of its row and column: 4, 7, 8.
+pub fn test_push(n: usize, capacity: usize, lent: LentLengths, row: usize, column: usize) -> Test
+    ensures { λ r. ⌜ testOf r ≡ pushTests n capacity lent row column ⌝ }
 {
-    let lent = test_lent(n, capacity, l.len(), u.len(), y.len(), z.len(), w.len());
-    let Test::Passed = lent else {
-        return lent;
+    let test = test_lent(n, capacity, lent);
+    let Test::Passed = test else {
+        return test;
     };
     if n == capacity {
         return Test::Refused(Refusal::CapacityExceeded);
     }
-    if row.len() != n {
+    if row != n {
         return Test::Refused(Refusal::LengthMismatch);
     }
-    if column.len() != n {
+    if column != n {
         return Test::Refused(Refusal::LengthMismatch);
     }
-    if y.len() <= n {
+    if lent.y <= n {
         return Test::Refused(Refusal::InsufficientWorkspace);
     }
     Test::Passed
 }
 
-// What both replacements test last: 7 for the length of the values, 8 for that of the workspaces.
-fn test_values(n: usize, values: usize, workspace: usize) -> Test
-    ensures { λ r. ⌜ testOf r ≡ (refuseIf (not (eqb values n)) 7 orElse refuseIf (ltb workspace n) 8) ⌝ }
+// Replace row or column, with the length of its values: 5 or 6, which is `outside`, then 7, 8.
+pub fn test_replacement(
+    n: usize,
+    capacity: usize,
+    lent: LentLengths,
+    index: usize,
+    outside: Refusal,
+    values: usize,
+) -> Test
+    ensures { λ r. ⌜ testOf r ≡ replacementTests n capacity lent index (refusalOf outside) values ⌝ }
 {
+    let test = test_lent(n, capacity, lent);
+    let Test::Passed = test else {
+        return test;
+    };
+    if index >= n {
+        return Test::Refused(outside);
+    }
     if values != n {
         return Test::Refused(Refusal::LengthMismatch);
     }
-    if workspace < n {
+    if lent.y < n {
         return Test::Refused(Refusal::InsufficientWorkspace);
     }
     Test::Passed
-}
-
-// Replace row: 5, 7, 8.
-pub fn test_replace_row(
-    n: usize,
-    capacity: usize,
-    l: &[f64],
-    u: &[f64],
-    y: &[f64],
-    z: &[f64],
-    w: &[f64],
-    row: usize,
-    values: &[f64],
-) -> Test
-    ensures { λ r. ⌜ testOf r ≡ refusalAt (ieee binary64) (instance n capacity (now (l .entry)) (now (u .entry)) (now (y .entry)) (now (z .entry)) (now (w .entry))) (replaceRow row (now (values .entry))) ⌝ }
-{
-    let lent = test_lent(n, capacity, l.len(), u.len(), y.len(), z.len(), w.len());
-    let Test::Passed = lent else {
-        return lent;
-    };
-    if row >= n {
-        return Test::Refused(Refusal::RowOutOfBounds);
-    }
-    test_values(n, values.len(), y.len())
-}
-
-// Replace column: 6, 7, 8.
-pub fn test_replace_column(
-    n: usize,
-    capacity: usize,
-    l: &[f64],
-    u: &[f64],
-    y: &[f64],
-    z: &[f64],
-    w: &[f64],
-    column: usize,
-    values: &[f64],
-) -> Test
-    ensures { λ r. ⌜ testOf r ≡ refusalAt (ieee binary64) (instance n capacity (now (l .entry)) (now (u .entry)) (now (y .entry)) (now (z .entry)) (now (w .entry))) (replaceColumn column (now (values .entry))) ⌝ }
-{
-    let lent = test_lent(n, capacity, l.len(), u.len(), y.len(), z.len(), w.len());
-    let Test::Passed = lent else {
-        return lent;
-    };
-    if column >= n {
-        return Test::Refused(Refusal::ColumnOutOfBounds);
-    }
-    test_values(n, values.len(), y.len())
 }
 
 // Remove: 5, 6, 8.
-pub fn test_remove(
-    n: usize,
-    capacity: usize,
-    l: &[f64],
-    u: &[f64],
-    y: &[f64],
-    z: &[f64],
-    w: &[f64],
-    row: usize,
-    column: usize,
-) -> Test
-    ensures { λ r. ⌜ testOf r ≡ refusalAt (ieee binary64) (instance n capacity (now (l .entry)) (now (u .entry)) (now (y .entry)) (now (z .entry)) (now (w .entry))) (remove row column) ⌝ }
+pub fn test_remove(n: usize, capacity: usize, lent: LentLengths, row: usize, column: usize) -> Test
+    ensures { λ r. ⌜ testOf r ≡ removeTests n capacity lent row column ⌝ }
 {
-    let lent = test_lent(n, capacity, l.len(), u.len(), y.len(), z.len(), w.len());
-    let Test::Passed = lent else {
-        return lent;
+    let test = test_lent(n, capacity, lent);
+    let Test::Passed = test else {
+        return test;
     };
     if row >= n {
         return Test::Refused(Refusal::RowOutOfBounds);
@@ -187,22 +144,21 @@ pub fn test_remove(
     if column >= n {
         return Test::Refused(Refusal::ColumnOutOfBounds);
     }
-    if y.len() < n {
+    if n > lent.y {
         return Test::Refused(Refusal::InsufficientWorkspace);
     }
     Test::Passed
 }
 
-// Both solves: 7, then the diagonal upward.
-pub fn test_solve(n: usize, capacity: usize, l: &[f64], u: &[f64], rhs: &[f64]) -> Test
-    ensures { λ r. ⌜ (testOf r ≡ refusalAt (ieee binary64) (lentToSolve n capacity (now (l .entry)) (now (u .entry))) (solve (now (rhs .entry))))
-        × (testOf r ≡ refusalAt (ieee binary64) (lentToSolve n capacity (now (l .entry)) (now (u .entry))) (solveTransposed (now (rhs .entry)))) ⌝ }
+// Both solves, with the lengths of L and of the right-hand side: 1, 2, 3, 7, then the diagonal upward.
+pub fn test_solve(n: usize, capacity: usize, l: usize, u: &[f64], rhs: usize) -> Test
+    ensures { λ r. ⌜ testOf r ≡ solveTests n capacity l (length (now (u .entry))) rhs (diagonals (ieee binary64) (viewU (ieee binary64) capacity (now (u .entry))) n) ⌝ }
 {
-    let storage = test_storage(n, capacity, l.len(), u.len());
+    let storage = test_storage(n, capacity, l, u.len());
     let Test::Passed = storage else {
         return storage;
     };
-    if rhs.len() != n {
+    if rhs != n {
         return Test::Refused(Refusal::LengthMismatch);
     }
     let found = test_diagonal(n, capacity, u);

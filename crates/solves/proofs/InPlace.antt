@@ -11,17 +11,13 @@ use Rattle.storage.specs.Places.{lIndex, WorkPlace}
 use Rattle.storage.specs.Views.{viewL, Kept}
 use Rattle.storage.proofs.Places.{lIndex-not-work}
 use Rattle.ranges.specs.Written.{from, Written}
-use Rattle.solves.specs.Products.{entriesFrom}
-use Rattle.solves.proofs.Vectors.{written-as}
+use Rattle.ranges.proofs.Vectors.{written-as}
+use Rattle.products.specs.RowSums.{entriesFrom}
 
 -- P is the plain or the transposed product at dimension n: it reads no more than the active entries and the first n of the vector
 module _ (N : NumberForm) (n : ℕ) (P : Table (N .Value) → Vector (N .Value) → Vector (N .Value))
     (same : (L M : Table (N .Value)) (v u : Vector (N .Value)) → ((i j : ℕ) → i < n → j < n → L i j ≡ M i j) → ((j : ℕ) → j < n → v j ≡ u j) → (i : ℕ) → i < n → P L v i ≡ P M u i) where
   open NumberForm N using (Value)
-
-  -- from the start of a slice
-  pub product-from-0 : (L : Table Value) (v : List Value) {b b′ : List Value} → Written N (λ i. i) n (P L (entriesFrom N 0 v)) b b′ → Written N (λ i. i) n (P L (entry N v)) b b′
-  product-from-0 L v h = written-as N (P L (entriesFrom N 0 v)) (same L L (entriesFrom N 0 v) (entry N v) (λ i j _ _ _. L i j) (λ j _. ap (entry N v) (zero-add j))) h
 
   -- from behind L
   pub product-in-place : (c : ℕ) {l l′ b b′ : List Value} → n ≤ c → Written N (from (c * c)) n (λ k. entriesFrom N 0 b k) l l′ → Written N (λ i. i) n (P (viewL N c l′) (entriesFrom N (c * c) l′)) b b′

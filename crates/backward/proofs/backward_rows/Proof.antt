@@ -9,7 +9,7 @@ use Rattle.machine.specs.Backward.{backwardRow, backwardRows}
 use Rattle.machine.proofs.Backward.{backward-row-same}
 use Rattle.forward.specs.Performed.{Performed}
 use Rattle.forward.proofs.Buffers.{performed-none, performed-then, performed-as}
-use Rattle.backward.proofs.BackwardRow.{backward-rows-none, backward-rows-more}
+use Rattle.backward.proofs.Rows.{backward-rows-none, backward-rows-more}
 use Rattle.backward.proofs.backward_rows.Statement.{statement}
 use Rattle.backward.proofs.backward_rows.Tie as tie
 

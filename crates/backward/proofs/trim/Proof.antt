@@ -7,7 +7,7 @@ use lib.Ieee.{binary64}
 use Rattle.numbers.specs.NumberForm.{ieee}
 use Rattle.machine.specs.Products.{entry}
 use Rattle.machine.specs.Backward.{trim}
-use Rattle.backward.proofs.BackwardRow.{trim-more, trim-ends, trim-at-start}
+use Rattle.backward.proofs.Rows.{trim-more, trim-ends, trim-at-start}
 use Rattle.backward.proofs.trim.Statement.{statement}
 use Rattle.backward.proofs.trim.Tie as tie
 

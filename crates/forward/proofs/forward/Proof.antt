@@ -3,13 +3,13 @@ use mathlib.Core.Path.{_≡_, _∙_}
 use Prim.Native.Nat.{_-_, _≤_}
 use native.Mathlib.Omega.{arith}
 use lib.Ieee.{binary64}
-use Rattle.numbers.specs.NumberForm.{ieee}
 use mathlib.Core.List.{[]}
+use Rattle.numbers.specs.NumberForm.{ieee}
 use Rattle.numbers.specs.Tolerances.{tinyOf}
 use Rattle.machine.specs.Forward.{forwardRow, forwardRows, forward}
 use Rattle.machine.proofs.Forward.{forward-row-same, copy-dense-same}
+use Rattle.ranges.proofs.RowParts.{part-fits}
 use Rattle.forward.specs.Performed.{Performed}
-use Rattle.forward.proofs.RowParts.{part-fits}
 use Rattle.forward.proofs.Buffers.{performed-none, performed-then, performed-as}
 use Rattle.forward.proofs.ForwardRow.{forward-rows-none, forward-rows-more, dense-copied}
 use Rattle.forward.proofs.forward.Statement.{statement}

@@ -10,7 +10,7 @@ use Rattle.numbers.specs.NumberForm.{ieee}
 use Rattle.numbers.specs.Tolerances.{tinyOf}
 use Rattle.machine.specs.Forward.{forwardTransform}
 use Rattle.storage.proofs.Places.{row-before, row-fits}
-use Rattle.forward.proofs.RowParts.{part-fits, ranges-apart}
+use Rattle.ranges.proofs.RowParts.{part-fits, ranges-apart}
 use Rattle.forward.proofs.Buffers.{performed-none, performed-as}
 use Rattle.forward.proofs.ForwardRow.{forward-transformed, forward-acts, forward-passes}
 use Rattle.forward.proofs.forward_row.Statement.{statement}

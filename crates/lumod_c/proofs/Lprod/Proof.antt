@@ -12,7 +12,7 @@ use Rattle.numbers.specs.NumberForm.{ieee}
 use Rattle.zero_based.specs.Numbers.{sizeOf, strideOf}
 use Rattle.zero_based.specs.Refusals.{productLacksRoom}
 use Rattle.lumod_c.proofs.Tests.{product-room, outcome-11, outcome-12, outcome-0}
-use Rattle.lumod_c.proofs.Calls.{plain-product, transposed-product}
+use Rattle.lumod_c.proofs.Modes.{plain-product, transposed-product}
 use Rattle.lumod_c.proofs.Lprod.Statement.{statement}
 use Rattle.lumod_c.proofs.Lprod.Tie as tie
 

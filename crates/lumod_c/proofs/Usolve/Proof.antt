@@ -12,7 +12,7 @@ use Rattle.numbers.specs.NumberForm.{ieee}
 use Rattle.zero_based.specs.Numbers.{sizeOf, strideOf}
 use Rattle.zero_based.specs.Refusals.{solveLacksRoom}
 use Rattle.lumod_c.proofs.Tests.{solve-room, outcome-11, outcome-12, outcome-0}
-use Rattle.lumod_c.proofs.Calls.{plain-solve, transposed-solve}
+use Rattle.lumod_c.proofs.Modes.{plain-solve, transposed-solve}
 use Rattle.lumod_c.proofs.Usolve.Statement.{statement}
 use Rattle.lumod_c.proofs.Usolve.Tie as tie
 

@@ -1,6 +1,6 @@
 -- `test_lent`: each way through its tests.
-use borrow.Author.Needs.{needs}
 use borrow.Author.Tests.{eq-eqb, ne-eqb}
+use borrow.Author.Needs.{needs}
 use Rattle.managed.specs.Refusals.{workspaceTests}
 use Rattle.refusals.proofs.Chain.{refused-first, passed-none}
 use Rattle.refusals.proofs.test_lent.Statement.{statement}
@@ -20,15 +20,15 @@ returns c = refused-first (c .before .before .test-storage .ensures) _ _ (c .enu
 
 returns-2 : tie.Need-returns-2
 unfolding workspaceTests
-returns-2 c = rw (passed-none (c .before .before .before .test-storage .ensures) (c .before .enum-told .given .1), ne-eqb _ _ (c .if1 .taken))
+returns-2 c = rw (passed-none (c .before .before .before .before .test-storage .ensures) (c .before .before .enum-told .given .1), ne-eqb _ _ (c .if1 .taken))
 
 returns-3 : tie.Need-returns-3
 unfolding workspaceTests
-returns-3 c = rw (passed-none (c .before .before .before .before .test-storage .ensures) (c .before .before .enum-told .given .1), eq-eqb _ _ (c .before .if1 .left), ne-eqb _ _ (c .if2 .taken))
+returns-3 c = rw (passed-none (c .before .before .before .before .before .before .test-storage .ensures) (c .before .before .before .before .enum-told .given .1), eq-eqb _ _ (c .before .before .if1 .left), ne-eqb _ _ (c .if2 .taken))
 
 returns-4 : tie.Need-returns-4
 unfolding workspaceTests
-returns-4 c = rw (passed-none (c .before .before .before .before .test-storage .ensures) (c .before .before .enum-told .given .1), eq-eqb _ _ (c .before .if1 .left), eq-eqb _ _ (c .if2 .left))
+returns-4 c = rw (passed-none (c .before .before .before .before .before .before .test-storage .ensures) (c .before .before .before .before .enum-told .given .1), eq-eqb _ _ (c .before .before .if1 .left), eq-eqb _ _ (c .if2 .left))
 
 pub test-lent-spec : {M : Type 1} → statement M
 test-lent-spec =

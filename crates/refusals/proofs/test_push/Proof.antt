@@ -1,12 +1,8 @@
 -- `test_push`: each way through its tests.
-use borrow.Author.Needs.{needs}
 use Prim.Native.Nat.{_+_, _<_, _≤_}
 use native.Mathlib.Omega.{arith}
 use borrow.Author.Tests.{lt-ltb, le-ltb, eq-eqb, ne-eqb}
-use denote.Ref.{now}
-use lib.ListN.{length}
-use Rattle.machine.specs.Machine.{refusal}
-use Rattle.managed.specs.Refusals.{lentTests, refusalAt}
+use borrow.Author.Needs.{needs}
 use Rattle.refusals.proofs.Chain.{refused-first, passed-none}
 use Rattle.refusals.proofs.test_push.Statement.{statement}
 use Rattle.refusals.proofs.test_push.Tie as tie
@@ -21,28 +17,22 @@ enum-told-2 : tie.Need-enum-told-2
 enum-told-2 c = search needs
 
 returns : tie.Need-returns
-unfolding refusalAt lentTests refusal
-returns c = λ d. refused-first (c .before .before .test-lent .ensures) _ _ (c .enum-told2 .given .1)
+returns c = refused-first (c .before .before .test-lent .ensures) _ _ (c .enum-told2 .given .1)
 
 returns-2 : tie.Need-returns-2
-unfolding refusalAt lentTests refusal
-returns-2 c = λ d. rw (passed-none (c .before .before .before .test-lent .ensures) (c .before .enum-told .given .1), eq-eqb _ _ (c .if1 .taken))
+returns-2 c = rw (passed-none (c .before .before .before .test-lent .ensures) (c .before .enum-told .given .1), eq-eqb _ _ (c .if1 .taken))
 
 returns-3 : tie.Need-returns-3
-unfolding refusalAt lentTests refusal
-returns-3 c = λ d. rw (passed-none (c .before .before .before .before .test-lent .ensures) (c .before .before .enum-told .given .1), ne-eqb _ _ (c .before .if1 .left), ne-eqb _ _ (c .if2 .taken))
+returns-3 c = rw (passed-none (c .before .before .before .before .test-lent .ensures) (c .before .before .enum-told .given .1), ne-eqb _ _ (c .before .if1 .left), ne-eqb _ _ (c .if2 .taken))
 
 returns-4 : tie.Need-returns-4
-unfolding refusalAt lentTests refusal
-returns-4 c = λ d. rw (passed-none (c .before .before .before .before .before .test-lent .ensures) (c .before .before .before .enum-told .given .1), ne-eqb _ _ (c .before .before .if1 .left), eq-eqb _ _ (c .before .if2 .left), ne-eqb _ _ (c .if3 .taken))
+returns-4 c = rw (passed-none (c .before .before .before .before .before .test-lent .ensures) (c .before .before .before .enum-told .given .1), ne-eqb _ _ (c .before .before .if1 .left), eq-eqb _ _ (c .before .if2 .left), ne-eqb _ _ (c .if3 .taken))
 
 returns-5 : tie.Need-returns-5
-unfolding refusalAt lentTests refusal
-returns-5 c = let a = c .before .before .before .before .before .before .before .before .before .before .before .before .before .before .args in let h : length (now (a .y)) < a .n + 1 = omega arith in λ d. rw (passed-none (c .before .before .before .before .before .before .test-lent .ensures) (c .before .before .before .before .enum-told .given .1), ne-eqb _ _ (c .before .before .before .if1 .left), eq-eqb _ _ (c .before .before .if2 .left), eq-eqb _ _ (c .before .if3 .left), lt-ltb _ _ h)
+returns-5 c = let a = c .before .before .before .before .before .before .before .before .args in let h : a .lent .y < a .n + 1 = omega (arith, c .if4 .taken) in rw (passed-none (c .before .before .before .before .before .before .before .test-lent .ensures) (c .before .before .before .before .before .enum-told .given .1), ne-eqb _ _ (c .before .before .before .before .if1 .left), eq-eqb _ _ (c .before .before .before .if2 .left), eq-eqb _ _ (c .before .before .if3 .left), lt-ltb _ _ h)
 
 returns-6 : tie.Need-returns-6
-unfolding refusalAt lentTests refusal
-returns-6 c = let a = c .before .before .before .before .before .before .before .before .before .before .before .before .before .before .args in let h : a .n + 1 ≤ length (now (a .y)) = omega arith in λ d. rw (passed-none (c .before .before .before .before .before .before .test-lent .ensures) (c .before .before .before .before .enum-told .given .1), ne-eqb _ _ (c .before .before .before .if1 .left), eq-eqb _ _ (c .before .before .if2 .left), eq-eqb _ _ (c .before .if3 .left), le-ltb _ _ h)
+returns-6 c = let a = c .before .before .before .before .before .before .before .before .args in let h : a .n + 1 ≤ a .lent .y = omega (arith, c .if4 .left) in rw (passed-none (c .before .before .before .before .before .before .before .test-lent .ensures) (c .before .before .before .before .before .enum-told .given .1), ne-eqb _ _ (c .before .before .before .before .if1 .left), eq-eqb _ _ (c .before .before .before .if2 .left), eq-eqb _ _ (c .before .before .if3 .left), le-ltb _ _ h)
 
 pub test-push-spec : {M : Type 1} → statement M
 test-push-spec =

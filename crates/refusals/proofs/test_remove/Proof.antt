@@ -1,9 +1,6 @@
 -- `test_remove`: each way through its tests.
-use borrow.Author.Needs.{needs}
-use native.Mathlib.Nat.{add-zero}
 use borrow.Author.Tests.{lt-ltb, le-ltb, le-leb, lt-leb}
-use Rattle.machine.specs.Machine.{refusal}
-use Rattle.managed.specs.Refusals.{lentTests, refusalAt}
+use borrow.Author.Needs.{needs}
 use Rattle.refusals.proofs.Chain.{refused-first, passed-none}
 use Rattle.refusals.proofs.test_remove.Statement.{statement}
 use Rattle.refusals.proofs.test_remove.Tie as tie
@@ -18,24 +15,19 @@ enum-told-2 : tie.Need-enum-told-2
 enum-told-2 c = search needs
 
 returns : tie.Need-returns
-unfolding refusalAt lentTests refusal
 returns c = refused-first (c .before .before .test-lent .ensures) _ _ (c .enum-told2 .given .1)
 
 returns-2 : tie.Need-returns-2
-unfolding refusalAt lentTests refusal
 returns-2 c = rw (passed-none (c .before .before .before .test-lent .ensures) (c .before .enum-told .given .1), le-leb _ _ (c .if1 .taken))
 
 returns-3 : tie.Need-returns-3
-unfolding refusalAt lentTests refusal
 returns-3 c = rw (passed-none (c .before .before .before .before .test-lent .ensures) (c .before .before .enum-told .given .1), lt-leb _ _ (c .before .if1 .left), le-leb _ _ (c .if2 .taken))
 
 returns-4 : tie.Need-returns-4
-unfolding refusalAt lentTests refusal
-returns-4 c = rw (passed-none (c .before .before .before .before .before .test-lent .ensures) (c .before .before .before .enum-told .given .1), lt-leb _ _ (c .before .before .if1 .left), lt-leb _ _ (c .before .if2 .left), add-zero, lt-ltb _ _ (c .if3 .taken))
+returns-4 c = rw (passed-none (c .before .before .before .before .before .before .test-lent .ensures) (c .before .before .before .before .enum-told .given .1), lt-leb _ _ (c .before .before .before .if1 .left), lt-leb _ _ (c .before .before .if2 .left), lt-ltb _ _ (c .if3 .taken))
 
 returns-5 : tie.Need-returns-5
-unfolding refusalAt lentTests refusal
-returns-5 c = rw (passed-none (c .before .before .before .before .before .test-lent .ensures) (c .before .before .before .enum-told .given .1), lt-leb _ _ (c .before .before .if1 .left), lt-leb _ _ (c .before .if2 .left), add-zero, le-ltb _ _ (c .if3 .left))
+returns-5 c = rw (passed-none (c .before .before .before .before .before .before .test-lent .ensures) (c .before .before .before .before .enum-told .given .1), lt-leb _ _ (c .before .before .before .if1 .left), lt-leb _ _ (c .before .before .if2 .left), le-ltb _ _ (c .if3 .left))
 
 pub test-remove-spec : {M : Type 1} → statement M
 test-remove-spec =

@@ -1,15 +1,10 @@
 -- `test_solve`: each way through its tests.
+use mathlib.Core.Path.{sym, ap, _∙_}
+use borrow.Author.Tests.{eq-eqb, ne-eqb}
 use borrow.Author.Needs.{needs}
-use mathlib.Core.Path.{ap, sym, _∙_}
-use borrow.Author.Tests.{ne-eqb}
-use denote.Ref.{now}
-use lib.Ieee.{binary64}
-use Rattle.numbers.specs.NumberForm.{ieee}
-use Rattle.machine.specs.Machine.{refusal}
-use Rattle.solves.specs.Diagonal.{answerOf}
-use Rattle.managed.specs.Refusals.{lentTests, refusalAt}
+use Rattle.diagonals.specs.Diagonal.{answerOf}
 use Rattle.managed.proofs.Refusals.{storage-passed}
-use Rattle.refusals.proofs.Chain.{refused-first, passed-none, diagonal-decides}
+use Rattle.refusals.proofs.Chain.{refused-first, passed-none}
 use Rattle.refusals.proofs.test_solve.Statement.{statement}
 use Rattle.refusals.proofs.test_solve.Tie as tie
 
@@ -23,12 +18,10 @@ enum-told-2 : tie.Need-enum-told-2
 enum-told-2 c = search needs
 
 returns : tie.Need-returns
-unfolding refusalAt lentTests refusal
-returns c = let told = c .enum-told2 .given .1 in let first = refused-first (refused-first (c .before .before .test-storage .ensures) _ _ told) _ _ told in (first, first)
+returns c = refused-first (c .before .before .test-storage .ensures) _ _ (c .enum-told2 .given .1)
 
 returns-2 : tie.Need-returns-2
-unfolding refusalAt lentTests refusal
-returns-2 c = let e = passed-none (c .before .before .before .test-storage .ensures) (c .before .enum-told .given .1) in (rw (e, ne-eqb _ _ (c .if1 .taken)), rw (e, ne-eqb _ _ (c .if1 .taken)))
+returns-2 c = rw (passed-none (c .before .before .before .test-storage .ensures) (c .before .enum-told .given .1), ne-eqb _ _ (c .if1 .taken))
 
 test-diagonal-requires : tie.Need-test-diagonal-requires
 test-diagonal-requires c κs = let p = storage-passed _ _ _ _ (passed-none (c .before .before .before .test-storage .ensures) (c .before .enum-told .given .1)) in (p .dimension, (p .capacity, p .U))
@@ -43,13 +36,13 @@ enum-known-found-2 : tie.Need-enum-known-found-2
 enum-known-found-2 c = search needs
 
 returns-3 : tie.Need-returns-3
-returns-3 c = let a = c .before .before .before .before .before .before .before .before .before .before .args in diagonal-decides (ieee binary64) (a .n) (a .capacity) (now (a .l)) (now (a .u)) (now (a .rhs)) (passed-none (c .before .before .before .before .before .before .test-storage .ensures) (c .before .before .before .before .enum-told .given .1)) (c .before .before .before .if1 .left) (ap answerOf (sym (c .enum-told3 .given .1)) ∙ c .before .before .test-diagonal .ensures)
+returns-3 c = rw (passed-none (c .before .before .before .before .before .before .test-storage .ensures) (c .before .before .before .before .enum-told .given .1), eq-eqb _ _ (c .before .before .before .if1 .left)) (ap answerOf (sym (c .enum-told3 .given .1)) ∙ c .before .before .test-diagonal .ensures)
 
 returns-4 : tie.Need-returns-4
-returns-4 c = let a = c .before .before .before .before .before .before .before .before .before .before .before .args in diagonal-decides (ieee binary64) (a .n) (a .capacity) (now (a .l)) (now (a .u)) (now (a .rhs)) (passed-none (c .before .before .before .before .before .before .before .test-storage .ensures) (c .before .before .before .before .before .enum-told .given .1)) (c .before .before .before .before .if1 .left) (ap answerOf (sym (c .before .found .given .1)) ∙ c .before .before .before .test-diagonal .ensures)
+returns-4 c = rw (passed-none (c .before .before .before .before .before .before .before .test-storage .ensures) (c .before .before .before .before .before .enum-told .given .1), eq-eqb _ _ (c .before .before .before .before .if1 .left)) (ap answerOf (sym (c .before .found .given .1)) ∙ c .before .before .before .test-diagonal .ensures)
 
 returns-5 : tie.Need-returns-5
-returns-5 c = let a = c .before .before .before .before .before .before .before .before .before .before .before .args in diagonal-decides (ieee binary64) (a .n) (a .capacity) (now (a .l)) (now (a .u)) (now (a .rhs)) (passed-none (c .before .before .before .before .before .before .before .test-storage .ensures) (c .before .before .before .before .before .enum-told .given .1)) (c .before .before .before .before .if1 .left) (ap answerOf (sym (c .before .found2 .given .1)) ∙ c .before .before .before .test-diagonal .ensures)
+returns-5 c = rw (passed-none (c .before .before .before .before .before .before .before .test-storage .ensures) (c .before .before .before .before .before .enum-told .given .1), eq-eqb _ _ (c .before .before .before .before .if1 .left)) (ap answerOf (sym (c .before .found2 .given .1)) ∙ c .before .before .before .test-diagonal .ensures)
 
 pub test-solve-spec : {M : Type 1} → statement M
 test-solve-spec =

@@ -6,7 +6,7 @@ use lib.Ieee.{binary64}
 use Rattle.numbers.specs.NumberForm.{ieee}
 use Rattle.machine.specs.Solves.{diagonals}
 use Rattle.storage.specs.Views.{viewU}
-use Rattle.solves.specs.Diagonal.{answerOf}
+use Rattle.diagonals.specs.Diagonal.{answerOf}
 use Rattle.managed.proofs.Refusals.{storage-passed}
 use Rattle.refusals.specs.Refusal.{testOf}
 use Rattle.api.specs.Answers.{readyUnder}

@@ -1,0 +1,164 @@
+-- `backward_row`: dense is cleared; then the row is skipped, or the pair step is made and applied.
+use borrow.Author.Needs.{needs}
+use mathlib.Core.Path.{refl, _∙_}
+use Prim.Native.Nat.{_-_}
+use native.Mathlib.Omega.{arith}
+use lib.Ieee.{binary64}
+use lib.ListN.{length, length-set}
+use denote.Ref.{now}
+use Rattle.numbers.specs.NumberForm.{ieee}
+use Rattle.numbers.specs.Tolerances.{tinyOf}
+use Rattle.machine.specs.Backward.{clearDense, backwardTransform}
+use Rattle.machine.proofs.Backward.{backward-transform-same}
+use Rattle.storage.proofs.Places.{row-before, row-fits}
+use Rattle.ranges.proofs.RowParts.{part-fits, ranges-apart}
+use Rattle.forward.proofs.Buffers.{performed-then, performed-as, performed-from}
+use Rattle.backward_row.proofs.RowEliminated.{dense-cleared, backward-transformed, backward-skips, backward-acts}
+use Rattle.backward_row.proofs.backward_row.Statement.{statement}
+use Rattle.backward_row.proofs.backward_row.Tie as tie
+
+mul-y : tie.Need-mul-y
+mul-y c = search needs
+
+slice-write-y : tie.Need-slice-write-y
+slice-write-y c = search needs
+
+mul-pivot : tie.Need-mul-pivot
+mul-pivot c = search needs
+
+slice-read-pivot : tie.Need-slice-read-pivot
+slice-read-pivot c = search needs
+
+mul-value : tie.Need-mul-value
+mul-value c = search needs
+
+slice-read-value : tie.Need-slice-read-value
+slice-read-value c = search needs
+
+abs-requires : tie.Need-abs-requires
+abs-requires c κs = search needs
+
+abs-requires-2 : tie.Need-abs-requires-2
+abs-requires-2 c κs = search needs
+
+same-length : tie.Need-same-length
+same-length c = simp length-set
+
+returns : tie.Need-returns
+returns c =
+    let start = c .before .before .before .before .before .before .before .before .before .before in
+    let a = start .args in
+    let p = start .pre in
+    performed-as (ieee binary64) (clearDense (ieee binary64) (a .row))
+    (backward-skips (ieee binary64) (a .numerics .epsilon) (tinyOf binary64 (a .numerics .epsilon) (a .numerics .«update_tiny»)) (a .stride) (a .row) (a .selected) (a .columns) (now (a .l)) (now (a .u)) (now (a .y)) (now (a .v)) (c .before .before .abs2 .ensures) (c .before .before .before .abs .ensures) (c .if1 .taken))
+    (performed-from (ieee binary64) (omega arith) (dense-cleared (ieee binary64) (a .stride) (a .n) (a .columns) (a .row) (a .n) _ _ _ _ (omega arith) (omega arith) (omega arith)))
+
+elementary-requires : tie.Need-elementary-requires
+elementary-requires c κs = search needs
+
+mul-v : tie.Need-mul-v
+mul-v c = search needs
+
+slice-write-v : tie.Need-slice-write-v
+slice-write-v c = let p = c .before .before .before .before .before .before .before .before .before .before .before .before .before .pre in omega arith
+
+mul-v-2 : tie.Need-mul-v-2
+mul-v-2 c = search needs
+
+slice-write-v-2 : tie.Need-slice-write-v-2
+slice-write-v-2 c = let p = c .before .before .before .before .before .before .before .before .before .before .before .before .before .pre in simp length-set (omega arith)
+
+u-index-requires : tie.Need-u-index-requires
+u-index-requires c κs = let p = c .before .before .before .before .before .before .before .before .before .before .before .before .before .pre in omega arith
+
+sub-transform-slices : tie.Need-sub-transform-slices
+sub-transform-slices c = let p = c .before .before .before .before .before .before .before .before .before .before .before .before .before .before .before .before .pre in omega arith
+
+transform-slices-requires : tie.Need-transform-slices-requires
+transform-slices-requires c κs =
+    let start = c .before .before .before .before .before .before .before .before .before .before .before .before .before .before .before .before in
+    let a = start .args in
+    let p = start .pre in
+    let d = c .before .before .u-index in (
+      simp length-set (omega arith),
+      part-fits (a .stride) (a .row) (a .row) (a .columns - a .row) (d .result) (omega arith) (omega arith) (d .ensures .0) (length (now (a .u))) (omega arith) (omega arith),
+    )
+
+mul-transform-rows : tie.Need-mul-transform-rows
+mul-transform-rows c =
+    let start = c .before .before .before .before .before .before .before .before .before .before .before .before .before .before .before .before .before .before .before .before .before .before in
+    let p = start .pre in omega (arith, row-fits (start .args .stride) (start .args .selected) (omega arith) (omega arith), row-fits (start .args .stride) (start .args .row) (omega arith) (omega arith))
+
+mul-transform-rows-2 : tie.Need-mul-transform-rows-2
+mul-transform-rows-2 c =
+    let start = c .before .before .before .before .before .before .before .before .before .before .before .before .before .before .before .before .before .before .before .before .before .before in
+    let p = start .pre in omega (arith, row-fits (start .args .stride) (start .args .selected) (omega arith) (omega arith), row-fits (start .args .stride) (start .args .row) (omega arith) (omega arith))
+
+transform-rows-requires : tie.Need-transform-rows-requires
+transform-rows-requires c κs =
+    let start = c .before .before .before .before .before .before .before .before .before .before .before .before .before .before .before .before .before .before .before .before .before .before in
+    let a = start .args in
+    let h = start .pre in
+    let p = row-before (a .stride) (a .row) (a .selected) (omega arith) in
+    let q = row-before (a .stride) (a .selected) (a .stride) (omega arith) in
+    (ranges-apart _ _ _ (λ e. omega arith), (omega arith, omega arith))
+
+same-length-2 : tie.Need-same-length-2
+same-length-2 c = c .before .before .transform-rows .ensures .kept .long
+
+same-length-3 : tie.Need-same-length-3
+same-length-3 c = c .before .before .before .before .before .before .before .before .transform-slices .ensures .1 .kept .long
+
+same-length-4 : tie.Need-same-length-4
+same-length-4 c = c .before .before .before .before .before .before .before .before .transform-slices .ensures .0 .kept .long ∙ simp length-set
+
+same-length-5 : tie.Need-same-length-5
+same-length-5 c = simp length-set
+
+returns-2 : tie.Need-returns-2
+returns-2 c =
+    let start = c .before .before .before .before .before .before .before .before .before .before .before .before .before .before .before .before .before .before .before .before .before .before .before .before .before in
+    let transform-slices = c .before .before .before .before .before .before .before .before .transform-slices in
+    let a = start .args in
+    let p = start .pre in
+    let d = c .before .before .before .before .before .before .before .before .before .before .before .u-index in
+    let s = c .before .before .before .before .before .before .before .before .before .before .before .before .elementary in
+    performed-as (ieee binary64) (λ S. backwardTransform (ieee binary64) (a .selected) (a .columns) (a .row) _ (clearDense (ieee binary64) (a .row) S))
+    (backward-acts (ieee binary64) (a .numerics .epsilon) (tinyOf binary64 (a .numerics .epsilon) (a .numerics .«update_tiny»)) (a .stride) (a .row) (a .selected) (a .columns) (now (a .l)) (now (a .u)) (now (a .y)) (now (a .v)) (c .before .before .before .before .before .before .before .before .before .before .before .before .before .before .before .before .before .abs2 .ensures) (c .before .before .before .before .before .before .before .before .before .before .before .before .before .before .before .before .before .before .abs .ensures) (c .before .before .before .before .before .before .before .before .before .before .before .before .before .before .before .if1 .left) (s .ensures .step))
+    (performed-then (ieee binary64) (performed-from (ieee binary64) (omega arith) (dense-cleared (ieee binary64) (a .stride) (a .n) (a .columns) (a .row) (a .n) _ _ _ _ (omega arith) (omega arith) (omega arith)))
+    (backward-transformed (ieee binary64) (a .stride) (a .n) (a .columns) (a .row) (a .selected) (d .result) _ _ _ _ _ _ _ _
+    (omega arith) (omega arith) (omega arith) (omega arith) (omega arith) (d .ensures .0) (omega arith) (s .ensures .cleared)
+    (transform-slices .ensures .0) (transform-slices .ensures .1) (c .before .before .transform-rows .ensures))
+    (omega arith)
+    (λ S R. backward-transform-same (ieee binary64) (a .numerics .epsilon) (tinyOf binary64 (a .numerics .epsilon) (a .numerics .«update_tiny»)) (a .n) (a .columns) (omega arith) (a .selected) (a .row) refl (omega arith) (omega arith)))
+
+pub backward-row-spec : {M : Type 1} → statement M
+backward-row-spec =
+    tie.close
+    (tie.spec
+    mul-y
+    slice-write-y
+    mul-pivot
+    slice-read-pivot
+    mul-value
+    slice-read-value
+    abs-requires
+    abs-requires-2
+    same-length
+    returns
+    elementary-requires
+    mul-v
+    slice-write-v
+    mul-v-2
+    slice-write-v-2
+    u-index-requires
+    sub-transform-slices
+    transform-slices-requires
+    mul-transform-rows
+    mul-transform-rows-2
+    transform-rows-requires
+    same-length-2
+    same-length-3
+    same-length-4
+    same-length-5
+    returns-2)

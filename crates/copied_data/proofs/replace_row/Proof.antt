@@ -1,0 +1,56 @@
+-- `replace_row`: the values are copied, and the update is that of the data.
+use borrow.Author.Needs.{needs}
+use denote.Ref.{now}
+use lib.Ieee.{binary64}
+use Rattle.numbers.specs.Tolerances.{managedEpsilon, managedTiny}
+use Rattle.numbers.specs.NumberForm.{ieee}
+use Rattle.storage.specs.Views.{viewL, viewU}
+use Rattle.copied_data.proofs.CopiedData.{row-of-copy}
+use Rattle.copied_data.proofs.replace_row.Statement.{statement}
+use Rattle.copied_data.proofs.replace_row.Tie as tie
+
+copy-requires : tie.Need-copy-requires
+copy-requires c κs = search needs
+
+managed-requires : tie.Need-managed-requires
+managed-requires c κs = search needs
+
+replace-row-requires : tie.Need-replace-row-requires
+replace-row-requires c κs = search needs
+
+same-length : tie.Need-same-length
+same-length c = search needs
+
+same-length-2 : tie.Need-same-length-2
+same-length-2 c = search needs
+
+same-length-3 : tie.Need-same-length-3
+same-length-3 c = search needs
+
+same-length-4 : tie.Need-same-length-4
+same-length-4 c = search needs
+
+same-length-5 : tie.Need-same-length-5
+same-length-5 c = search needs
+
+returns : tie.Need-returns
+returns c =
+    let a = c .before .before .before .before .before .before .before .before .before .before .before .before .before .before .before .before .before .before .before .before .before .before .before .before .before .before .before .args in
+    let p = c .before .before .before .before .before .before .before .before .before .before .before .before .before .before .before .before .before .before .before .before .before .before .before .before .before .before .before .pre in
+    let b = c .before .before .before .before .before .before .before .before .before .before .before .managed .ensures in
+    row-of-copy (ieee binary64) (managedEpsilon binary64) (managedTiny binary64) (a .n) (a .capacity) (viewL (ieee binary64) (a .capacity) (now (a .l))) (viewU (ieee binary64) (a .capacity) (now (a .u)))
+    (a .row) (now (a .values)) (c .before .before .before .before .before .before .before .before .before .before .before .before .before .before .before .before .before .before .before .copy .ensures) (p .1 .1 .1 .1 .1) (rw (b .0, b .1) at (c .before .before .before .before .before .before .before .before .before .before .replace-row .ensures))
+
+pub replace-row-spec : {M : Type 1} → statement M
+replace-row-spec =
+    tie.close
+    (tie.spec
+    copy-requires
+    managed-requires
+    replace-row-requires
+    same-length
+    same-length-2
+    same-length-3
+    same-length-4
+    same-length-5
+    returns)

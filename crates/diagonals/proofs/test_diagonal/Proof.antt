@@ -1,0 +1,83 @@
+-- `test_diagonal`: one diagonal a turn.
+use borrow.Author.Needs.{needs}
+use mathlib.Core.Path.{_≡_, sym, _∙_}
+use mathlib.Core.Option.{none}
+use Prim.Native.Nat.{_-_, _≤_, _<_}
+use native.Mathlib.Omega.{arith}
+use lib.Ieee.{binary64}
+use denote.Ref.{now}
+use borrow.Author.Tests.{not-true, not-false}
+use Rattle.numbers.specs.NumberForm.{ieee}
+use Rattle.machine.specs.Solves.{diagonals}
+use Rattle.storage.specs.Views.{viewU}
+use Rattle.diagonals.proofs.Search.{zero-found, non-finite-found, sound-found, none-searched}
+use Rattle.diagonals.proofs.test_diagonal.Statement.{statement}
+use Rattle.diagonals.proofs.test_diagonal.Tie as tie
+
+abbrev Inv-loop : tie.InvT-loop
+Inv-loop n stride u i₀ i = (i ≤ n) × (diagonals (ieee binary64) (viewU (ieee binary64) stride u) i ≡ none)
+
+abbrev μ-loop : tie.MeasureT-loop
+μ-loop n stride u i₀ i = n - i
+
+loop-holds : tie.Need-loop-holds Inv-loop μ-loop
+loop-holds c = (omega arith, none-searched (ieee binary64) (c .before .args .stride) (now (c .before .args .u)))
+
+u-index-requires : tie.Need-u-index-requires Inv-loop μ-loop
+u-index-requires c κs = omega arith
+
+mul-value : tie.Need-mul-value Inv-loop μ-loop
+mul-value c = omega arith
+
+shared-slice-read-value : tie.Need-shared-slice-read-value Inv-loop μ-loop
+shared-slice-read-value c = omega arith
+
+returns : tie.Need-returns Inv-loop μ-loop
+returns c =
+    let start = c .before .before .before .before .before .before in
+    let loop = c .before .before .before .before .loop in
+    let h : loop .i < start .args .n = omega arith in zero-found (ieee binary64) (start .args .stride) (start .args .n) (loop .i) (c .before .before .u-index .result) (now (start .args .u)) (c .before .before .u-index .ensures .0) (loop .inv .1) h (c .if1 .taken)
+
+is-finite-requires : tie.Need-is-finite-requires Inv-loop μ-loop
+is-finite-requires c κs = search needs
+
+returns-2 : tie.Need-returns-2 Inv-loop μ-loop
+returns-2 c =
+    let start = c .before .before .before .before .before .before .before .before in
+    let loop = c .before .before .before .before .before .before .loop in
+    let u-index = c .before .before .before .before .u-index in
+    let h : loop .i < start .args .n = omega arith in non-finite-found (ieee binary64) (start .args .stride) (start .args .n) (loop .i) (u-index .result) (now (start .args .u)) (u-index .ensures .0) (loop .inv .1) h (c .before .before .if1 .left) (sym (c .before .is-finite .ensures) ∙ not-true _ (c .if2 .taken))
+
+add-i : tie.Need-add-i Inv-loop μ-loop
+add-i c = omega arith
+
+loop-less : tie.Need-loop-less Inv-loop μ-loop
+loop-less c = omega arith
+
+loop-again : tie.Need-loop-again Inv-loop μ-loop
+loop-again c =
+    let start = c .before .before .before .before .before .before .before .before in
+    let loop = c .before .before .before .before .before .before .loop in
+    let u-index = c .before .before .before .before .u-index in
+    (omega arith, sound-found (ieee binary64) (start .args .stride) (start .args .n) (loop .i) (u-index .result) (now (start .args .u)) (u-index .ensures .0) (loop .inv .1) (c .before .before .if1 .left) (sym (c .before .is-finite .ensures) ∙ not-false _ (c .if2 .left)))
+
+returns-3 : tie.Need-returns-3 Inv-loop μ-loop
+returns-3 c = let e : c .before .loop .i ≡ c .before .before .before .args .n = omega arith in sym (rw e at (c .before .loop .inv .1))
+
+pub test-diagonal-spec : {M : Type 1} → statement M
+test-diagonal-spec =
+    tie.close
+    (tie.spec
+    Inv-loop
+    μ-loop
+    loop-holds
+    u-index-requires
+    mul-value
+    shared-slice-read-value
+    returns
+    is-finite-requires
+    returns-2
+    add-i
+    loop-less
+    loop-again
+    returns-3)

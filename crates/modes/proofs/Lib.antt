@@ -1,0 +1,2 @@
+-- Calls is about the machine's step for each mode.
+pub mod Calls

@@ -1,0 +1,23 @@
+-- `l_product`: from the start of `input`.
+use borrow.Author.Needs.{needs}
+use denote.Ref.{now}
+use lib.Ieee.{binary64}
+use Rattle.numbers.specs.NumberForm.{ieee}
+use Rattle.machine.specs.Products.{product}
+use Rattle.machine.proofs.Products.{product-same}
+use Rattle.storage.specs.Views.{viewL}
+use Rattle.products.proofs.Sums.{product-from-0}
+use Rattle.products.proofs.l_product.Statement.{statement}
+use Rattle.products.proofs.l_product.Tie as tie
+
+l-product-from-requires : tie.Need-l-product-from-requires
+l-product-from-requires c κs = search needs
+
+same-length : tie.Need-same-length
+same-length c = search needs
+
+returns : tie.Need-returns
+returns c = let a = c .before .before .before .before .before .before .before .args in product-from-0 (ieee binary64) (a .n) (product (ieee binary64) (a .n)) (product-same (ieee binary64) (a .n)) (viewL (ieee binary64) (a .stride) (now (a .l))) (now (a .input)) (c .before .before .l-product-from .ensures)
+
+pub l-product-spec : {M : Type 1} → statement M
+l-product-spec = tie.close (tie.spec l-product-from-requires same-length returns)

@@ -1,0 +1,81 @@
+-- `l_product_from`: the entries that are left, one a turn.
+use borrow.Author.Needs.{needs}
+use mathlib.Core.Path.{_≡_, refl, _∙_}
+use Prim.Native.Nat.{_-_, _≤_}
+use native.Mathlib.Omega.{arith}
+use denote.Ref.{now}
+use lib.Ieee.{binary64}
+use Rattle.numbers.specs.NumberForm.{ieee}
+use Rattle.machine.specs.Products.{product}
+use Rattle.storage.specs.Views.{viewL}
+use Rattle.storage.proofs.Kept.{kept-all}
+use Rattle.storage.proofs.Places.{row-before, row-fits}
+use Rattle.ranges.specs.Written.{Written}
+use Rattle.ranges.proofs.Writing.{apart, written-more}
+use Rattle.ranges.proofs.Vectors.{written-further}
+use Rattle.products.specs.RowSums.{entriesFrom}
+use Rattle.products.proofs.Sums.{row-product}
+use Rattle.products.proofs.l_product_from.Statement.{statement}
+use Rattle.products.proofs.l_product_from.Tie as tie
+
+abbrev Inv-loop : tie.InvT-loop
+Inv-loop n stride l input start output₀ done i₀ output i = (i ≤ n) × Written (ieee binary64) (λ k. k) i (product (ieee binary64) n (viewL (ieee binary64) stride l) (entriesFrom (ieee binary64) start input)) output₀ output
+
+abbrev μ-loop : tie.MeasureT-loop
+μ-loop n stride l input start output₀ done i₀ output i = n - i
+
+products-by-fours-requires : tie.Need-products-by-fours-requires Inv-loop μ-loop
+products-by-fours-requires c κs = search needs
+
+loop-holds : tie.Need-loop-holds Inv-loop μ-loop
+loop-holds c = let done = c .before .before .products-by-fours .ensures in (done .0, record { value = done .1 .value; kept = kept-all (ieee binary64) })
+
+mul-dot : tie.Need-mul-dot Inv-loop μ-loop
+mul-dot c = omega (arith, row-fits (c .before .before .before .before .before .before .before .before .before .args .stride) (c .before .loop .i) (omega arith) (omega arith))
+
+dot-requires : tie.Need-dot-requires Inv-loop μ-loop
+dot-requires c κs =
+    let start = c .before .before .before .before .before .before .before .before .before in
+    let h = row-before (start .args .stride) (c .before .loop .i) (start .args .stride) (omega arith) in
+    (omega arith, omega arith)
+
+mul-output : tie.Need-mul-output Inv-loop μ-loop
+mul-output c = omega arith
+
+slice-write-output : tie.Need-slice-write-output Inv-loop μ-loop
+slice-write-output c = omega arith
+
+add-i : tie.Need-add-i Inv-loop μ-loop
+add-i c = omega arith
+
+loop-less : tie.Need-loop-less Inv-loop μ-loop
+loop-less c = omega arith
+
+loop-again : tie.Need-loop-again Inv-loop μ-loop
+loop-again c =
+    let a = c .before .before .before .before .before .before .before .before .before .before .args in
+    (omega arith, written-more (ieee binary64) (apart (ieee binary64) _) (c .before .before .loop .inv .1) (omega arith) (row-product (ieee binary64) (a .stride) (a .n) (c .before .before .loop .i) _ (a .start) (now (a .l)) (now (a .input)) refl (c .dot .ensures)))
+
+same-length : tie.Need-same-length Inv-loop μ-loop
+same-length c = c .before .loop .inv .1 .kept .long ∙ c .before .before .before .before .products-by-fours .ensures .1 .kept .long
+
+returns : tie.Need-returns Inv-loop μ-loop
+returns c = let e : c .before .loop .i ≡ c .before .before .before .before .before .before .before .before .before .args .n = omega arith in written-further (ieee binary64) (c .before .before .before .before .products-by-fours .ensures .0) (c .before .before .before .before .products-by-fours .ensures .1) (rw e at (c .before .loop .inv .1))
+
+pub l-product-from-spec : {M : Type 1} → statement M
+l-product-from-spec =
+    tie.close
+    (tie.spec
+    Inv-loop
+    μ-loop
+    products-by-fours-requires
+    loop-holds
+    mul-dot
+    dot-requires
+    mul-output
+    slice-write-output
+    add-i
+    loop-less
+    loop-again
+    same-length
+    returns)

@@ -1,0 +1,24 @@
+-- `l_product_transposed`: from the start of `input`.
+use borrow.Author.Needs.{needs}
+use denote.Ref.{now}
+use lib.Ieee.{binary64}
+use Rattle.numbers.specs.NumberForm.{ieee}
+use Rattle.machine.specs.Products.{productTransposed}
+use Rattle.machine.proofs.Products.{product-transposed-same}
+use Rattle.storage.specs.Views.{viewL}
+use Rattle.products.proofs.Sums.{product-from-0}
+use Rattle.products.proofs.l_product_transposed.Statement.{statement}
+use Rattle.products.proofs.l_product_transposed.Tie as tie
+
+l-product-transposed-from-requires : tie.Need-l-product-transposed-from-requires
+l-product-transposed-from-requires c κs = search needs
+
+same-length : tie.Need-same-length
+same-length c = search needs
+
+returns : tie.Need-returns
+returns c = let a = c .before .before .before .before .before .before .before .args in product-from-0 (ieee binary64) (a .n) (productTransposed (ieee binary64) (a .n)) (product-transposed-same (ieee binary64) (a .n)) (viewL (ieee binary64) (a .stride) (now (a .l))) (now (a .input)) (c .before .before .l-product-transposed-from .ensures)
+
+pub l-product-transposed-spec : {M : Type 1} → statement M
+l-product-transposed-spec =
+    tie.close (tie.spec l-product-transposed-from-requires same-length returns)

@@ -1,0 +1,89 @@
+-- `l_product_transposed_from`: one row of L a turn.
+use mathlib.Core.Path.{_≡_, refl, _∙_}
+use Prim.Native.Nat.{_-_, _≤_}
+use native.Mathlib.Omega.{arith}
+use denote.Ref.{now}
+use lib.Ieee.{binary64}
+use Rattle.numbers.specs.NumberForm.{ieee}
+use Rattle.storage.proofs.Kept.{kept-all}
+use Rattle.storage.proofs.Places.{row-before, row-fits}
+use Rattle.ranges.specs.Written.{Written}
+use Rattle.ranges.proofs.Writing.{sum-none}
+use Rattle.ranges.proofs.Vectors.{written-over, written-from-0}
+use Rattle.products.specs.RowSums.{entriesFrom}
+use Rattle.products.proofs.Sums.{rowSums, row-sums-more, row-sums-all}
+use Rattle.products.proofs.l_product_transposed_from.Statement.{statement}
+use Rattle.products.proofs.l_product_transposed_from.Tie as tie
+
+abbrev Inv-loop : tie.InvT-loop
+Inv-loop n stride l input start output₀ j₀ output j = (j ≤ n) × Written (ieee binary64) (λ k. k) n (rowSums (ieee binary64) stride j l (entriesFrom (ieee binary64) start input)) output₀ output
+
+abbrev μ-loop : tie.MeasureT-loop
+μ-loop n stride l input start output₀ j₀ output j = n - j
+
+fill-requires : tie.Need-fill-requires Inv-loop μ-loop
+fill-requires c κs = omega arith
+
+loop-holds : tie.Need-loop-holds Inv-loop μ-loop
+loop-holds c = let f = written-from-0 (ieee binary64) (c .before .before .fill .ensures) in (omega arith, record { value = λ k h. f .value k h ∙ sum-none (ieee binary64) _; kept = kept-all (ieee binary64) })
+
+mul-add-multiple : tie.Need-mul-add-multiple Inv-loop μ-loop
+mul-add-multiple c = omega (arith, row-fits (c .before .before .before .before .before .before .before .before .before .before .args .stride) (c .before .before .loop .j) (omega arith) (omega arith))
+
+add-add-multiple : tie.Need-add-add-multiple Inv-loop μ-loop
+add-add-multiple c = omega arith
+
+mul-add-multiple-2 : tie.Need-mul-add-multiple-2 Inv-loop μ-loop
+mul-add-multiple-2 c = omega arith
+
+shared-slice-read-add-multiple : tie.Need-shared-slice-read-add-multiple Inv-loop μ-loop
+shared-slice-read-add-multiple c = omega arith
+
+add-multiple-requires : tie.Need-add-multiple-requires Inv-loop μ-loop
+add-multiple-requires c κs =
+    let start = c .before .before .before .before .before .before .before .before .before .before .before in
+    let loop = c .before .before .before .loop in
+    let h = row-before (start .args .stride) (loop .j) (start .args .stride) (omega arith) in
+    let k = loop .inv .1 .kept .long in
+    (omega arith, omega arith)
+
+add-j : tie.Need-add-j Inv-loop μ-loop
+add-j c = omega arith
+
+loop-less : tie.Need-loop-less Inv-loop μ-loop
+loop-less c = omega arith
+
+loop-again : tie.Need-loop-again Inv-loop μ-loop
+loop-again c =
+    let loop = c .before .before .before .before .before .before .loop in
+    let a = c .before .before .before .before .before .before .before .before .before .before .before .before .before .before .args in
+    (omega arith, row-sums-more (ieee binary64) (a .stride) (a .n) (loop .j) (now (a .l)) (entriesFrom (ieee binary64) (a .start) (now (a .input))) refl (loop .inv .1) (c .before .before .add-multiple .ensures))
+
+same-length : tie.Need-same-length Inv-loop μ-loop
+same-length c = c .before .loop .inv .1 .kept .long ∙ c .before .before .before .before .fill .ensures .kept .long
+
+returns : tie.Need-returns Inv-loop μ-loop
+returns c =
+    let a = c .before .before .before .before .before .before .before .before .before .args in
+    let e : c .before .loop .j ≡ a .n = omega arith in
+    row-sums-all (ieee binary64) (a .stride) (a .n) (now (a .l)) (entriesFrom (ieee binary64) (a .start) (now (a .input)))
+    (written-over (ieee binary64) (written-from-0 (ieee binary64) (c .before .before .before .before .fill .ensures)) (rw e at (c .before .loop .inv .1)))
+
+pub l-product-transposed-from-spec : {M : Type 1} → statement M
+l-product-transposed-from-spec =
+    tie.close
+    (tie.spec
+    Inv-loop
+    μ-loop
+    fill-requires
+    loop-holds
+    mul-add-multiple
+    add-add-multiple
+    mul-add-multiple-2
+    shared-slice-read-add-multiple
+    add-multiple-requires
+    add-j
+    loop-less
+    loop-again
+    same-length
+    returns)

@@ -1,0 +1,43 @@
+-- `test_replacement`: each way through its tests.
+use borrow.Author.Tests.{lt-ltb, le-ltb, le-leb, lt-leb, eq-eqb, ne-eqb}
+use borrow.Author.Needs.{needs}
+use Rattle.refusals.proofs.Chain.{refused-first, passed-none}
+use Rattle.refusals.proofs.test_replacement.Statement.{statement}
+use Rattle.refusals.proofs.test_replacement.Tie as tie
+
+test-lent-requires : tie.Need-test-lent-requires
+test-lent-requires c κs = search needs
+
+enum-told : tie.Need-enum-told
+enum-told c = search needs
+
+enum-told-2 : tie.Need-enum-told-2
+enum-told-2 c = search needs
+
+returns : tie.Need-returns
+returns c = refused-first (c .before .before .test-lent .ensures) _ _ (c .enum-told2 .given .1)
+
+returns-2 : tie.Need-returns-2
+returns-2 c = rw (passed-none (c .before .before .before .test-lent .ensures) (c .before .enum-told .given .1), le-leb _ _ (c .if1 .taken))
+
+returns-3 : tie.Need-returns-3
+returns-3 c = rw (passed-none (c .before .before .before .before .test-lent .ensures) (c .before .before .enum-told .given .1), lt-leb _ _ (c .before .if1 .left), ne-eqb _ _ (c .if2 .taken))
+
+returns-4 : tie.Need-returns-4
+returns-4 c = rw (passed-none (c .before .before .before .before .before .before .test-lent .ensures) (c .before .before .before .before .enum-told .given .1), lt-leb _ _ (c .before .before .before .if1 .left), eq-eqb _ _ (c .before .before .if2 .left), lt-ltb _ _ (c .if3 .taken))
+
+returns-5 : tie.Need-returns-5
+returns-5 c = rw (passed-none (c .before .before .before .before .before .before .test-lent .ensures) (c .before .before .before .before .enum-told .given .1), lt-leb _ _ (c .before .before .before .if1 .left), eq-eqb _ _ (c .before .before .if2 .left), le-ltb _ _ (c .if3 .left))
+
+pub test-replacement-spec : {M : Type 1} → statement M
+test-replacement-spec =
+    tie.close
+    (tie.spec
+    test-lent-requires
+    enum-told
+    enum-told-2
+    returns
+    returns-2
+    returns-3
+    returns-4
+    returns-5)

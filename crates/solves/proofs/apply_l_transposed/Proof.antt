@@ -1,0 +1,39 @@
+-- `apply_l_transposed`: the vector goes behind L, and its product over it.
+use borrow.Author.Needs.{needs}
+use native.Mathlib.Omega.{arith}
+use lib.Ieee.{binary64}
+use Rattle.numbers.specs.NumberForm.{ieee}
+use Rattle.machine.specs.Products.{productTransposed}
+use Rattle.machine.proofs.Products.{product-transposed-same}
+use Rattle.solves.proofs.InPlace.{product-in-place}
+use Rattle.solves.proofs.apply_l_transposed.Statement.{statement}
+use Rattle.solves.proofs.apply_l_transposed.Tie as tie
+
+mul-work : tie.Need-mul-work
+mul-work c = search needs
+
+copy-requires : tie.Need-copy-requires
+copy-requires c κs = search needs
+
+l-product-transposed-from-requires : tie.Need-l-product-transposed-from-requires
+l-product-transposed-from-requires c κs = search needs
+
+same-length : tie.Need-same-length
+same-length c = search needs
+
+same-length-2 : tie.Need-same-length-2
+same-length-2 c = search needs
+
+returns : tie.Need-returns
+returns c = let a = c .before .before .before .before .before .before .before .before .before .before .before .before .args in product-in-place (ieee binary64) (a .n) (productTransposed (ieee binary64) (a .n)) (product-transposed-same (ieee binary64) (a .n)) (a .capacity) (omega arith) (c .before .before .before .before .before .before .before .copy .ensures) (c .before .before .l-product-transposed-from .ensures)
+
+pub apply-l-transposed-spec : {M : Type 1} → statement M
+apply-l-transposed-spec =
+    tie.close
+    (tie.spec
+    mul-work
+    copy-requires
+    l-product-transposed-from-requires
+    same-length
+    same-length-2
+    returns)

@@ -1,0 +1,35 @@
+-- `solve`: the product, and back substitution on what it left.
+use borrow.Author.Needs.{needs}
+use native.Mathlib.Omega.{arith}
+use denote.Ref.{now}
+use lib.Ieee.{binary64}
+use Rattle.numbers.specs.NumberForm.{ieee}
+use Rattle.machine.proofs.Solves.{back-substitution-same}
+use Rattle.storage.specs.Views.{viewU}
+use Rattle.ranges.proofs.Vectors.{written-as, written-over}
+use Rattle.solves.proofs.solve.Statement.{statement}
+use Rattle.solves.proofs.solve.Tie as tie
+
+apply-l-requires : tie.Need-apply-l-requires
+apply-l-requires c κs = search needs
+
+back-substitute-requires : tie.Need-back-substitute-requires
+back-substitute-requires c κs = search needs
+
+same-length : tie.Need-same-length
+same-length c = search needs
+
+same-length-2 : tie.Need-same-length-2
+same-length-2 c = search needs
+
+returns : tie.Need-returns
+returns c =
+    let a = c .before .before .before .before .before .before .before .before .before .before .before .before .before .before .args in
+    let U = viewU (ieee binary64) (a .capacity) (now (a .u)) in
+    let product = c .before .before .before .before .before .before .before .before .apply-l .ensures .0 in
+    (written-over (ieee binary64) product (written-as (ieee binary64) _ (back-substitution-same (ieee binary64) (a .n) U U (λ i j _ _ _. U i j) _ _ (product .value) (a .n) (omega arith)) (c .before .before .back-substitute .ensures)), c .before .before .before .before .before .before .before .before .apply-l .ensures .1)
+
+pub solve-spec : {M : Type 1} → statement M
+solve-spec =
+    tie.close
+    (tie.spec apply-l-requires back-substitute-requires same-length same-length-2 returns)

@@ -1,0 +1,39 @@
+-- `solve_transposed`: forward substitution, and the product of what it left.
+use borrow.Author.Needs.{needs}
+use denote.Ref.{now}
+use lib.Ieee.{binary64}
+use Rattle.numbers.specs.NumberForm.{ieee}
+use Rattle.machine.proofs.Products.{product-transposed-same}
+use Rattle.storage.specs.Views.{viewL}
+use Rattle.ranges.proofs.Vectors.{written-as, written-over}
+use Rattle.solves.proofs.solve_transposed.Statement.{statement}
+use Rattle.solves.proofs.solve_transposed.Tie as tie
+
+forward-substitute-requires : tie.Need-forward-substitute-requires
+forward-substitute-requires c κs = search needs
+
+apply-l-transposed-requires : tie.Need-apply-l-transposed-requires
+apply-l-transposed-requires c κs = search needs
+
+same-length : tie.Need-same-length
+same-length c = search needs
+
+same-length-2 : tie.Need-same-length-2
+same-length-2 c = search needs
+
+returns : tie.Need-returns
+returns c =
+    let a = c .before .before .before .before .before .before .before .before .before .before .before .before .before .before .args in
+    let L = viewL (ieee binary64) (a .capacity) (now (a .l)) in
+    let solved = c .before .before .before .before .before .before .before .before .before .forward-substitute .ensures in
+    (written-over (ieee binary64) solved (written-as (ieee binary64) _ (product-transposed-same (ieee binary64) (a .n) L L _ _ (λ i j _ _ _. L i j) (solved .value)) (c .before .before .before .before .apply-l-transposed .ensures .0)), c .before .before .before .before .apply-l-transposed .ensures .1)
+
+pub solve-transposed-spec : {M : Type 1} → statement M
+solve-transposed-spec =
+    tie.close
+    (tie.spec
+    forward-substitute-requires
+    apply-l-transposed-requires
+    same-length
+    same-length-2
+    returns)

@@ -1,2 +1,0 @@
-pub mod Diagonal
-pub mod Products

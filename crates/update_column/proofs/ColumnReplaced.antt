@@ -1,0 +1,55 @@
+-- A column in its place, and the triangle restored.
+use mathlib.Core.Path.{refl}
+use mathlib.Core.List.{List}
+use Prim.Native.Nat.{ℕ, suc, _+_, _-_, _≤_, _<_}
+use native.Mathlib.Omega.{arith}
+use borrow.Author.Tests.{lt-ltb, le-ltb}
+use Rattle.numbers.specs.NumberForm.{NumberForm}
+use Rattle.machine.specs.Products.{entry, unset, product}
+use Rattle.machine.specs.Updates.{putColumn, restored, columnReplaced}
+use Rattle.machine.specs.Agreement.{AgreeWithin}
+use Rattle.machine.proofs.Choice.{within-less, within-trans}
+use Rattle.machine.proofs.Updates.{restored-same}
+use Rattle.storage.specs.Places.{uIndex}
+use Rattle.storage.specs.Views.{viewL, viewU, Kept}
+use Rattle.storage.proofs.Kept.{kept-all, kept-then, kept-more}
+use Rattle.ranges.specs.Written.{Written}
+use Rattle.forward.specs.Performed.{workOf, Performed}
+use Rattle.stages.specs.Stages.{Updated}
+use Rattle.stages.proofs.StageLaws.{u-column-kept, column-put, factors-agree}
+
+module _ (N : NumberForm) (E T : N .Value) where
+  open NumberForm N using (Value)
+
+  module _ (c n k : ℕ) (l u y z w u₁ w₁ : List Value) (hc : n ≤ c) (hk : k < n)
+      (ws : Written N (λ i. i) n (product N n (viewL N c l) (entry N z)) w w₁) (us : Written N (λ i. uIndex c i k) (k + 1) (entry N w₁) u u₁) where
+    column-start : AgreeWithin n n n n (workOf N c l u₁ y w₁) (putColumn k (record { L = viewL N c l; U = viewU N c u; y = unset N; v = product N n (viewL N c l) (entry N z) }))
+    column-start =
+        column-put N c n n n k l u y w₁ hc hk us (record { L = λ i j a b. refl; U = λ i j a b. refl; y = λ j a b. absurd (omega arith); v = λ j h. ws .value j h })
+
+    w-free : Kept N (λ q. q < n) w w₁
+    w-free = kept-more N (λ q a. omega arith) (ws .kept)
+
+    pub column-restored : {l′ u′ y′ w′ : List Value} → suc k < n → Performed N c n k n 0 (restored N E T k (n - 1) n) l u₁ y w₁ l′ u′ y′ w′
+        → Updated N c n n (columnReplaced N E T n (viewL N c l) (viewU N c u) k z) l u y z w l′ u′ y′ z w′
+    unfolding columnReplaced
+    column-restored {l′} {u′} {y′} {w′} h r = record {
+      agree = rw (lt-ltb (suc k) n h) (factors-agree N n c l′ u′ y′ w′ (omega arith) (within-trans (r .agree)
+          (within-less n 0 (omega arith) (omega arith) (restored-same N E T n n k (omega arith) hk (n - 1) n (omega arith) (omega arith) (omega arith) column-start))));
+      l-kept = r .l-kept;
+      u-kept = kept-then N (u-column-kept N c k (k + 1) (omega arith) (omega arith) us n hk) (r .u-kept);
+      y-kept = r .y-kept;
+      z-kept = kept-all N;
+      w-kept = kept-then N w-free (r .v-kept);
+    }
+
+    pub last-column-replaced : n ≤ suc k → Updated N c n n (columnReplaced N E T n (viewL N c l) (viewU N c u) k z) l u y z w l u₁ y z w₁
+    unfolding columnReplaced
+    last-column-replaced h = record {
+      agree = rw (le-ltb (suc k) n h) (factors-agree N n c l u₁ y w₁ (omega arith) column-start);
+      l-kept = kept-all N;
+      u-kept = u-column-kept N c k (k + 1) (omega arith) (omega arith) us n hk;
+      y-kept = kept-all N;
+      z-kept = kept-all N;
+      w-kept = w-free;
+    }

@@ -1,0 +1,90 @@
+-- `replace_column`: the column, and where it is not the last the triangle restored.
+use borrow.Author.Needs.{needs}
+use Prim.Native.Nat.{_-_}
+use native.Mathlib.Omega.{arith}
+use lib.Ieee.{binary64}
+use denote.Ref.{now}
+use Rattle.numbers.specs.NumberForm.{ieee}
+use Rattle.numbers.specs.Tolerances.{tinyOf}
+use Rattle.update_column.proofs.ColumnReplaced.{column-restored, last-column-replaced}
+use Rattle.update_column.proofs.replace_column.Statement.{statement}
+use Rattle.update_column.proofs.replace_column.Tie as tie
+
+l-product-requires : tie.Need-l-product-requires
+l-product-requires c κs = search needs
+
+add-write-u-column : tie.Need-add-write-u-column
+add-write-u-column c = search needs
+
+write-u-column-requires : tie.Need-write-u-column-requires
+write-u-column-requires c κs = search needs
+
+add-if1 : tie.Need-add-if1
+add-if1 c = search needs
+
+sub-restore : tie.Need-sub-restore
+sub-restore c = search needs
+
+restore-requires : tie.Need-restore-requires
+restore-requires c κs = search needs
+
+same-length : tie.Need-same-length
+same-length c = search needs
+
+same-length-2 : tie.Need-same-length-2
+same-length-2 c = search needs
+
+same-length-3 : tie.Need-same-length-3
+same-length-3 c = search needs
+
+same-length-4 : tie.Need-same-length-4
+same-length-4 c = search needs
+
+returns : tie.Need-returns
+returns c =
+    let start = c .before .before .before .before .before .before .before .before .before .before .before .before .before .before .before .before .before .before .before .before .before .before .before .before .before .before .before .before .before in
+    let a = start .args in
+    let p = start .pre in
+    column-restored (ieee binary64) (a .numerics .epsilon) (tinyOf binary64 (a .numerics .epsilon) (a .numerics .«update_tiny»)) (a .stride) (a .n) (a .column) (now (a .l)) (now (a .u)) (now (a .y))
+    (now (a .z)) (now (a .w)) _ _ (omega arith) (omega arith)
+    (c .before .before .before .before .before .before .before .before .before .before .before .before .before .before .before .before .before .before .before .before .before .l-product .ensures)
+    (c .before .before .before .before .before .before .before .before .before .before .before .before .before .before .before .before .write-u-column .ensures) (omega arith)
+    (c .before .before .before .before .before .before .before .before .restore .ensures)
+
+same-length-5 : tie.Need-same-length-5
+same-length-5 c = search needs
+
+same-length-6 : tie.Need-same-length-6
+same-length-6 c = search needs
+
+same-length-7 : tie.Need-same-length-7
+same-length-7 c = search needs
+
+returns-2 : tie.Need-returns-2
+returns-2 c =
+    let start = c .before .before .before .before .before .before .before .before .before .before .before .before .before .before .before .before in
+    let a = start .args in
+    let p = start .pre in
+    last-column-replaced (ieee binary64) (a .numerics .epsilon) (tinyOf binary64 (a .numerics .epsilon) (a .numerics .«update_tiny»)) (a .stride) (a .n) (a .column) (now (a .l)) (now (a .u))
+    (now (a .y)) (now (a .z)) (now (a .w)) _ _ (omega arith) (omega arith)
+    (c .before .before .before .before .before .before .before .before .l-product .ensures) (c .before .before .before .write-u-column .ensures) (omega arith)
+
+pub replace-column-spec : {M : Type 1} → statement M
+replace-column-spec =
+    tie.close
+    (tie.spec
+    l-product-requires
+    add-write-u-column
+    write-u-column-requires
+    add-if1
+    sub-restore
+    restore-requires
+    same-length
+    same-length-2
+    same-length-3
+    same-length-4
+    returns
+    same-length-5
+    same-length-6
+    same-length-7
+    returns-2)

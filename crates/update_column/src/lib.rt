@@ -1,0 +1,38 @@
+// Replacing a column of the matrix, on lent slices. The workspaces' first n entries are scratch.
+ghost use Prim.Native.Nat.{_+_, _-_, _≤_, _<_};
+ghost use lib.ListN.{length};
+ghost use lib.Ieee.{binary64};
+ghost use Rattle.numbers.specs.NumberForm.{ieee};
+ghost use Rattle.numbers.specs.Tolerances.{tinyOf};
+ghost use Rattle.machine.specs.Updates.{columnReplaced};
+ghost use Rattle.storage.specs.Views.{viewL, viewU};
+ghost use Rattle.forward.specs.Performed.{Room};
+ghost use Rattle.stages.specs.Stages.{Updated};
+use columns::write_u_column;
+use numerics::tolerance::Numerics;
+use products::l_product;
+use stages::restore;
+
+// Replaces a column of the matrix by z.
+pub fn replace_column(
+    column: usize,
+    n: usize,
+    stride: usize,
+    l: &mut [f64],
+    u: &mut [f64],
+    y: &mut [f64],
+    z: &[f64],
+    w: &mut [f64],
+    numerics: Numerics,
+)
+    requires { ⌜ Room (ieee binary64) stride n (now l) (now u) × ((n ≤ length (now y)) × ((n ≤ length (now z)) × ((n ≤ length (now w)) × (column < n)))) ⌝ }
+    ensures { λ _. ⌜ Updated (ieee binary64) stride n n (columnReplaced (ieee binary64) (numerics .epsilon) (tinyOf binary64 (numerics .epsilon) (numerics .«update_tiny»)) n
+        (viewL (ieee binary64) stride (now (l .entry))) (viewU (ieee binary64) stride (now (u .entry))) column (now (z .entry)))
+        (now (l .entry)) (now (u .entry)) (now (y .entry)) (now (z .entry)) (now (w .entry)) (now (l .exit)) (now (u .exit)) (now (y .exit)) (now (z .entry)) (now (w .exit)) ⌝ }
+{
+    l_product(n, stride, l, z, w);
+    write_u_column(u, column, column + 1, stride, w);
+    if column + 1 < n {
+        restore(column, n - 1, n, n, stride, l, u, y, w, numerics);
+    }
+}

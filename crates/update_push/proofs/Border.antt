@@ -1,0 +1,66 @@
+-- The border of a push, and Forward over it.
+use mathlib.Core.Path.{_≡_, refl, sym, ap, _∙_}
+use mathlib.Core.List.{List, []}
+use Prim.Native.Nat.{ℕ, suc, _-_, _≤_, _<_}
+use native.Mathlib.Omega.{arith}
+use lib.Dec.{eqb, eqb→eq}
+use lib.ListN.{length, set}
+use lib.Seq.{getD-set-same, getD-set-other}
+use Rattle.numbers.specs.NumberForm.{NumberForm}
+use Rattle.machine.specs.Products.{entry, product}
+use Rattle.machine.specs.Forward.{forward}
+use Rattle.machine.specs.Updates.{bordered, pushed}
+use Rattle.machine.specs.Agreement.{AgreeWithin}
+use Rattle.machine.proofs.Choice.{neqb→ne, choose, pick}
+use Rattle.storage.specs.Places.{lIndex, uIndex}
+use Rattle.storage.specs.Views.{viewL, viewU}
+use Rattle.storage.proofs.Kept.{kept-all, kept-set, kept-then, kept-more}
+use Rattle.storage.proofs.Places.{uIndex-injective}
+use Rattle.ranges.specs.Written.{Written}
+use Rattle.forward.specs.Performed.{workOf, Performed}
+use Rattle.stages.specs.Stages.{withUnitRow, LUpdated, Updated}
+use Rattle.stages.proofs.StageLaws.{l-column, l-column-kept, u-column-other, u-column-kept, factors-agree, forward-agrees}
+
+module _ (N : NumberForm) (E T : N .Value) where
+  open NumberForm N using (Value, zero as 𝟎, absent)
+
+  module _ (c n d : ℕ) (l u y z w w₁ l₁ l₂ u₁ : List Value) (hc : n ≤ c) (hn : 0 < n) (ws : Written N (λ i. i) (n - 1) (product N (n - 1) (viewL N c l) (entry N z)) w w₁)
+      (cleared : Written N (λ i. lIndex c i (n - 1)) (n - 1) (λ i. 𝟎) l l₁) (unit : LUpdated N c n (withUnitRow N (n - 1) (n - 1)) l₁ l₂)
+      (us : Written N (λ i. uIndex c i (n - 1)) (n - 1) (entry N w₁) u u₁) (is-d : d ≡ uIndex c (n - 1) (n - 1)) (fits : d < length u₁) where
+    border-u : (i j : ℕ) → i ≤ j → j < n → viewU N c (set u₁ d 𝟎) i j ≡ bordered N (n - 1) (viewL N c l) (viewU N c u) y z (entry N y (n - 1)) .U i j
+    unfolding bordered
+    border-u i j hij hj =
+        pick (eqb j (n - 1))
+        (λ s. pick (eqb i (n - 1))
+        (λ t. ap (λ (a : ℕ). viewU N c (set u₁ d 𝟎) a j) (eqb→eq i (n - 1) t) ∙ ap (viewU N c (set u₁ d 𝟎) (n - 1)) (eqb→eq j (n - 1) s) ∙ ap (entry N (set u₁ d 𝟎)) (sym is-d)
+        ∙ getD-set-same u₁ d 𝟎 absent fits)
+        (λ t. let ne = neqb→ne i (n - 1) t in
+        getD-set-other u₁ d _ 𝟎 absent (λ e. ne (uIndex-injective c i j (n - 1) (n - 1) hij (omega arith) (omega arith) (omega arith) (e ∙ is-d) .0))
+        ∙ ap (viewU N c u₁ i) (eqb→eq j (n - 1) s) ∙ us .value i (omega (arith, ne)) ∙ ws .value i (omega (arith, ne))))
+        (λ s. let ne = neqb→ne j (n - 1) s in
+        getD-set-other u₁ d _ 𝟎 absent (λ e. ne (uIndex-injective c i j (n - 1) (n - 1) hij (omega arith) (omega arith) (omega arith) (e ∙ is-d) .1))
+        ∙ u-column-other N c (n - 1) (n - 1) (omega arith) (omega arith) us i j hij (omega arith) (λ e. absurd (ne e)))
+
+    border-agrees : AgreeWithin n 0 n 0 (workOf N c l₂ (set u₁ d 𝟎) y []) (bordered N (n - 1) (viewL N c l) (viewU N c u) y z (entry N y (n - 1)))
+    unfolding bordered
+    border-agrees = record {
+      L = λ i j hi hj. unit .value i j hi hj
+          ∙ choose (eqb i (n - 1)) (λ _. refl) (λ s. l-column N c (n - 1) (n - 1) (omega arith) cleared i j (omega (arith, neqb→ne i (n - 1) s)) (omega arith));
+      U = border-u;
+      y = λ j a b. pick (eqb j (n - 1)) (λ s. ap (entry N y) (eqb→eq j (n - 1) s)) (λ s. refl);
+      v = λ j h. absurd (omega arith);
+    }
+
+    pub push-done : {l′ u′ y′ : List Value} → Performed N c n 0 n 0 (forward N E T 0 (n - 1) n) l₂ (set u₁ d 𝟎) y [] l′ u′ y′ []
+        → Updated N c n n (pushed N E T (n - 1) (viewL N c l) (viewU N c u) y z (entry N y (n - 1))) l u y z w l′ u′ y′ z w₁
+    unfolding pushed
+    push-done {l′} {u′} {y′} p = record {
+      agree = let e : suc (n - 1) ≡ n = omega arith in rw e (factors-agree N n c l′ u′ y′ [] (omega arith)
+          (forward-agrees N E T c n 0 (n - 1) n l₂ (set u₁ d 𝟎) y [] (omega arith) (omega arith) (omega arith) (omega arith) p border-agrees));
+      l-kept = kept-then N (kept-then N (l-column-kept N c (n - 1) (n - 1) (omega arith) cleared n (omega arith) (omega arith)) (unit .kept)) (p .l-kept);
+      u-kept = kept-then N (kept-then N (u-column-kept N c (n - 1) (n - 1) (omega arith) (omega arith) us n (omega arith))
+          (kept-set N u₁ d 𝟎 (n - 1, n - 1, omega arith, omega arith, is-d))) (p .u-kept);
+      y-kept = p .y-kept;
+      z-kept = kept-all N;
+      w-kept = kept-more N (λ q a. omega arith) (ws .kept);
+    }

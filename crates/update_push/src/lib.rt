@@ -1,0 +1,44 @@
+// Appending a row and a column to the factors, on lent slices. The workspaces' first n entries are scratch.
+ghost use Prim.Native.Nat.{_-_, _≤_, _<_};
+ghost use lib.ListN.{length};
+ghost use lib.Ieee.{binary64};
+ghost use Rattle.numbers.specs.NumberForm.{ieee};
+ghost use Rattle.numbers.specs.Tolerances.{tinyOf};
+ghost use Rattle.machine.specs.Products.{entry};
+ghost use Rattle.machine.specs.Updates.{pushed};
+ghost use Rattle.storage.specs.Views.{viewL, viewU};
+ghost use Rattle.forward.specs.Performed.{Room};
+ghost use Rattle.stages.specs.Stages.{Updated};
+use columns::clear_l_column;
+use columns::write_u_column;
+use forward::forward;
+use numerics::tolerance::Numerics;
+use products::l_product;
+use stages::set_unit_row;
+use storage::u_index;
+
+// Appends a row and a column to the matrix; n is the new dimension, y holds the row with the diagonal behind it, and z the column.
+pub fn push(
+    n: usize,
+    stride: usize,
+    l: &mut [f64],
+    u: &mut [f64],
+    y: &mut [f64],
+    z: &[f64],
+    w: &mut [f64],
+    numerics: Numerics,
+)
+    requires { ⌜ Room (ieee binary64) stride n (now l) (now u) × ((n ≤ length (now y)) × ((n - 1 ≤ length (now z)) × ((n - 1 ≤ length (now w)) × (0 < n)))) ⌝ }
+    ensures { λ _. ⌜ Updated (ieee binary64) stride n n (pushed (ieee binary64) (numerics .epsilon) (tinyOf binary64 (numerics .epsilon) (numerics .«update_tiny»)) (n - 1)
+        (viewL (ieee binary64) stride (now (l .entry))) (viewU (ieee binary64) stride (now (u .entry))) (now (y .entry)) (now (z .entry)) (entry (ieee binary64) (now (y .entry)) (n - 1)))
+        (now (l .entry)) (now (u .entry)) (now (y .entry)) (now (z .entry)) (now (w .entry)) (now (l .exit)) (now (u .exit)) (now (y .exit)) (now (z .entry)) (now (w .exit)) ⌝ }
+{
+    let last = n - 1;
+    l_product(last, stride, l, z, w);
+    clear_l_column(l, last, last, stride);
+    set_unit_row(last, last, n, stride, l);
+    write_u_column(u, last, last, stride, w);
+    let corner = u_index(last, last, stride);
+    u[corner] = 0.0;
+    forward(0, last, n, n, stride, l, u, y, numerics);
+}
