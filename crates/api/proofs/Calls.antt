@@ -21,7 +21,7 @@ use Rattle.storage.specs.Views.{viewL, viewU, Kept}
 use Rattle.storage.proofs.Kept.{kept-all}
 use Rattle.storage.proofs.Places.{lIndex-not-work}
 use Rattle.ranges.specs.Written.{Written}
-use Rattle.forward.specs.Performed.{Room}
+use Rattle.buffers.specs.Performed.{Room}
 use Rattle.stages.specs.Stages.{Updated}
 use Rattle.managed.specs.Instance.{instance, lentToSolve}
 use Rattle.managed.specs.Outcome.{UpdateFrame, SolveFrame, Outcome}

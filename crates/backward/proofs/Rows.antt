@@ -15,7 +15,7 @@ use Rattle.storage.specs.Places.{uIndex}
 use Rattle.storage.proofs.Kept.{kept-all, kept-more}
 use Rattle.ranges.specs.Written.{from, Written}
 use Rattle.ranges.proofs.RowParts.{part-place}
-use Rattle.forward.specs.Performed.{Performed}
+use Rattle.buffers.specs.Performed.{Performed}
 
 module _ (N : NumberForm) where
   open NumberForm N using (Value, abs, le)

@@ -8,7 +8,7 @@ ghost use Rattle.numbers.specs.Tolerances.{tinyOf};
 ghost use Rattle.machine.specs.Products.{entry};
 ghost use Rattle.machine.specs.Backward.{backwardRows};
 ghost use Rattle.machine.specs.Backward;
-ghost use Rattle.forward.specs.Performed.{Room, Performed};
+ghost use Rattle.buffers.specs.Performed.{Room, Performed};
 use backward_row::backward_row;
 use numerics::real::abs;
 use numerics::tolerance::Numerics;

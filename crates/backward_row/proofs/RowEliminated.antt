@@ -19,8 +19,8 @@ use Rattle.storage.proofs.Kept.{kept-all, kept-set, kept-then, kept-more}
 use Rattle.ranges.specs.Written.{from, Written}
 use Rattle.transforms.specs.RowsTransformed.{RowsTransformed}
 use Rattle.ranges.proofs.RowParts.{part-place, outside-part, part-free, left-out}
-use Rattle.forward.specs.Performed.{workOf, Performed}
-use Rattle.forward.proofs.Buffers.{l-transformed, l-transformed-kept}
+use Rattle.buffers.specs.Performed.{workOf, Performed}
+use Rattle.buffers.proofs.Buffers.{l-transformed, l-transformed-kept}
 
 module _ (N : NumberForm) where
   open NumberForm N using (Value, zero as 𝟎, mul, abs, le, absent)

@@ -5,7 +5,7 @@ ghost use lib.Ieee.{binary64};
 ghost use Rattle.numbers.specs.NumberForm.{ieee};
 ghost use Rattle.numbers.specs.Tolerances.{tinyOf};
 ghost use Rattle.machine.specs.Backward.{backwardRow};
-ghost use Rattle.forward.specs.Performed.{Room, Performed};
+ghost use Rattle.buffers.specs.Performed.{Room, Performed};
 use numerics::pair::elementary;
 use numerics::real::abs;
 use numerics::tolerance::Numerics;

@@ -6,7 +6,7 @@ ghost use Rattle.numbers.specs.NumberForm.{ieee};
 ghost use Rattle.numbers.specs.Tolerances.{managedEpsilon, managedTiny};
 ghost use Rattle.machine.specs.Updates.{pushed, rowReplaced};
 ghost use Rattle.storage.specs.Views.{viewL, viewU};
-ghost use Rattle.forward.specs.Performed.{Room};
+ghost use Rattle.buffers.specs.Performed.{Room};
 ghost use Rattle.stages.specs.Stages.{Updated};
 use numerics::tolerance::managed;
 use ranges::copy;

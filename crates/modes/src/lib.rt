@@ -5,7 +5,7 @@ ghost use lib.ListN.{length};
 ghost use lib.Ieee.{binary64};
 ghost use Rattle.numbers.specs.NumberForm.{ieee};
 ghost use Rattle.numbers.specs.Tolerances.{zeroBasedEpsilon, zeroBasedTiny};
-ghost use Rattle.forward.specs.Performed.{Room};
+ghost use Rattle.buffers.specs.Performed.{Room};
 ghost use Rattle.modes.specs.UpdateDone.{UpdateDone};
 use numerics::tolerance::zero_based;
 use update_column::replace_column;

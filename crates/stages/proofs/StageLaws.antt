@@ -25,7 +25,7 @@ use Rattle.storage.specs.Views.{viewL, viewU, Kept}
 use Rattle.storage.proofs.Kept.{kept-all, kept-set, kept-then, kept-more}
 use Rattle.storage.proofs.Places.{lIndex-injective, uIndex-injective}
 use Rattle.ranges.specs.Written.{from, Written}
-use Rattle.forward.specs.Performed.{workOf, Performed}
+use Rattle.buffers.specs.Performed.{workOf, Performed}
 use Rattle.stages.specs.Stages.{withUnitRow, LUpdated, Updated}
 
 module _ (N : NumberForm) where

@@ -9,7 +9,7 @@ use Rattle.machine.specs.Tables.{Table, Work, stateOf}
 use Rattle.machine.specs.Agreement.{Agree}
 use Rattle.storage.specs.Places.{LPlace, UPlace}
 use Rattle.storage.specs.Views.{viewL, Kept}
-use Rattle.forward.specs.Performed.{workOf}
+use Rattle.buffers.specs.Performed.{workOf}
 
 module _ (N : NumberForm) where
   open NumberForm N using (Value, zero as 𝟎, one as 𝟏)

@@ -14,7 +14,7 @@ use Rattle.storage.specs.Places.{uIndex}
 use Rattle.storage.specs.Views.{viewL, viewU, Kept}
 use Rattle.storage.proofs.Kept.{kept-all, kept-then, kept-more}
 use Rattle.ranges.specs.Written.{Written}
-use Rattle.forward.specs.Performed.{workOf, Performed}
+use Rattle.buffers.specs.Performed.{workOf, Performed}
 use Rattle.stages.specs.Stages.{Updated}
 use Rattle.stages.proofs.StageLaws.{u-column-kept, column-put, factors-agree}
 

@@ -6,12 +6,12 @@ ghost use Rattle.numbers.specs.NumberForm.{ieee};
 ghost use Rattle.numbers.specs.Tolerances.{tinyOf};
 ghost use Rattle.machine.specs.Updates.{columnReplaced};
 ghost use Rattle.storage.specs.Views.{viewL, viewU};
-ghost use Rattle.forward.specs.Performed.{Room};
+ghost use Rattle.buffers.specs.Performed.{Room};
 ghost use Rattle.stages.specs.Stages.{Updated};
-use columns::write_u_column;
 use numerics::tolerance::Numerics;
 use products::l_product;
 use stages::restore;
+use u_columns::write_u_column;
 
 // Replaces a column of the matrix by z.
 pub fn replace_column(

@@ -17,7 +17,7 @@ use Rattle.storage.specs.Views.{viewL, viewU}
 use Rattle.storage.proofs.Kept.{kept-all, kept-set, kept-then, kept-more}
 use Rattle.storage.proofs.Places.{uIndex-injective}
 use Rattle.ranges.specs.Written.{Written}
-use Rattle.forward.specs.Performed.{workOf, Performed}
+use Rattle.buffers.specs.Performed.{workOf, Performed}
 use Rattle.stages.specs.Stages.{withUnitRow, LUpdated, Updated}
 use Rattle.stages.proofs.StageLaws.{l-column, l-column-kept, u-column-other, u-column-kept, factors-agree, forward-agrees}
 

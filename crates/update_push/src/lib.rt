@@ -7,15 +7,15 @@ ghost use Rattle.numbers.specs.Tolerances.{tinyOf};
 ghost use Rattle.machine.specs.Products.{entry};
 ghost use Rattle.machine.specs.Updates.{pushed};
 ghost use Rattle.storage.specs.Views.{viewL, viewU};
-ghost use Rattle.forward.specs.Performed.{Room};
+ghost use Rattle.buffers.specs.Performed.{Room};
 ghost use Rattle.stages.specs.Stages.{Updated};
-use columns::clear_l_column;
-use columns::write_u_column;
 use forward::forward;
+use l_columns::clear_l_column;
 use numerics::tolerance::Numerics;
 use products::l_product;
 use stages::set_unit_row;
 use storage::u_index;
+use u_columns::write_u_column;
 
 // Appends a row and a column to the matrix; n is the new dimension, y holds the row with the diagonal behind it, and z the column.
 pub fn push(

@@ -6,13 +6,13 @@ ghost use Rattle.numbers.specs.NumberForm.{ieee};
 ghost use Rattle.numbers.specs.Tolerances.{tinyOf};
 ghost use Rattle.machine.specs.Updates.{rowReplaced};
 ghost use Rattle.storage.specs.Views.{viewL, viewU};
-ghost use Rattle.forward.specs.Performed.{Room};
+ghost use Rattle.buffers.specs.Performed.{Room};
 ghost use Rattle.stages.specs.Stages.{Updated};
 use backward::backward;
 use backward::trim;
-use columns::clear_l_column;
-use columns::read_l_column;
 use forward::forward;
+use l_columns::clear_l_column;
+use l_columns::read_l_column;
 use numerics::tolerance::Numerics;
 use stages::set_unit_row;
 

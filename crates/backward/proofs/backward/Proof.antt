@@ -10,7 +10,7 @@ use Rattle.machine.specs.Backward.{backward}
 use Rattle.machine.proofs.Choice.{within-from}
 use Rattle.machine.proofs.Backward.{backward-rows-same}
 use Rattle.ranges.proofs.RowParts.{part-fits}
-use Rattle.forward.proofs.Buffers.{performed-then}
+use Rattle.buffers.proofs.Buffers.{performed-then}
 use Rattle.backward.proofs.Rows.{row-copied}
 use Rattle.backward.proofs.backward.Statement.{statement}
 use Rattle.backward.proofs.backward.Tie as tie

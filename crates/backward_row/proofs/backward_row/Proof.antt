@@ -12,7 +12,7 @@ use Rattle.machine.specs.Backward.{clearDense, backwardTransform}
 use Rattle.machine.proofs.Backward.{backward-transform-same}
 use Rattle.storage.proofs.Places.{row-before, row-fits}
 use Rattle.ranges.proofs.RowParts.{part-fits, ranges-apart}
-use Rattle.forward.proofs.Buffers.{performed-then, performed-as, performed-from}
+use Rattle.buffers.proofs.Buffers.{performed-then, performed-as, performed-from}
 use Rattle.backward_row.proofs.RowEliminated.{dense-cleared, backward-transformed, backward-skips, backward-acts}
 use Rattle.backward_row.proofs.backward_row.Statement.{statement}
 use Rattle.backward_row.proofs.backward_row.Tie as tie

@@ -9,9 +9,9 @@ use Rattle.numbers.specs.Tolerances.{tinyOf}
 use Rattle.machine.specs.Forward.{forwardRow, forwardRows, forward}
 use Rattle.machine.proofs.Forward.{forward-row-same, copy-dense-same}
 use Rattle.ranges.proofs.RowParts.{part-fits}
-use Rattle.forward.specs.Performed.{Performed}
-use Rattle.forward.proofs.Buffers.{performed-none, performed-then, performed-as}
-use Rattle.forward.proofs.ForwardRow.{forward-rows-none, forward-rows-more, dense-copied}
+use Rattle.buffers.specs.Performed.{Performed}
+use Rattle.buffers.proofs.Buffers.{performed-none, performed-then, performed-as}
+use Rattle.forward.proofs.Rows.{forward-rows-none, forward-rows-more, dense-copied}
 use Rattle.forward.proofs.forward.Statement.{statement}
 use Rattle.forward.proofs.forward.Tie as tie
 

@@ -8,8 +8,8 @@ use Rattle.numbers.specs.NumberForm.{ieee}
 use Rattle.machine.specs.Products.{entry, sum}
 use Rattle.storage.specs.Views.{viewU}
 use Rattle.ranges.proofs.Writing.{sum-none, sum-more}
-use Rattle.columns.proofs.dot_u_column.Statement.{statement}
-use Rattle.columns.proofs.dot_u_column.Tie as tie
+use Rattle.u_columns.proofs.dot_u_column.Statement.{statement}
+use Rattle.u_columns.proofs.dot_u_column.Tie as tie
 
 abbrev Inv-loop : tie.InvT-loop
 Inv-loop u column stride values value₀ i₀ value i = (i ≤ column) × (value ≡ sum (ieee binary64) i (λ j. mul binary64 (viewU (ieee binary64) stride u j column) (entry (ieee binary64) values j)))

@@ -11,10 +11,10 @@ use Rattle.numbers.specs.Tolerances.{tinyOf}
 use Rattle.machine.specs.Forward.{forwardTransform}
 use Rattle.storage.proofs.Places.{row-before, row-fits}
 use Rattle.ranges.proofs.RowParts.{part-fits, ranges-apart}
-use Rattle.forward.proofs.Buffers.{performed-none, performed-as}
-use Rattle.forward.proofs.ForwardRow.{forward-transformed, forward-acts, forward-passes}
-use Rattle.forward.proofs.forward_row.Statement.{statement}
-use Rattle.forward.proofs.forward_row.Tie as tie
+use Rattle.buffers.proofs.Buffers.{performed-none, performed-as}
+use Rattle.forward_row.proofs.RowEliminated.{forward-transformed, forward-acts, forward-passes}
+use Rattle.forward_row.proofs.forward_row.Statement.{statement}
+use Rattle.forward_row.proofs.forward_row.Tie as tie
 
 u-index-requires : tie.Need-u-index-requires
 u-index-requires c κs = omega arith

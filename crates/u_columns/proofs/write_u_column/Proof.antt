@@ -9,9 +9,9 @@ use Rattle.machine.specs.Products.{entry}
 use Rattle.storage.specs.Places.{uIndex}
 use Rattle.ranges.specs.Written.{Written}
 use Rattle.ranges.proofs.Writing.{written-none, stored}
-use Rattle.columns.proofs.ColumnPlaces.{uIndex-column-apart}
-use Rattle.columns.proofs.write_u_column.Statement.{statement}
-use Rattle.columns.proofs.write_u_column.Tie as tie
+use Rattle.u_columns.proofs.ColumnPlaces.{uIndex-column-apart}
+use Rattle.u_columns.proofs.write_u_column.Statement.{statement}
+use Rattle.u_columns.proofs.write_u_column.Tie as tie
 
 abbrev Inv-loop : tie.InvT-loop
 Inv-loop u₀ column rows stride values i₀ u i = (i ≤ rows) × Written (ieee binary64) (λ j. uIndex stride j column) i (entry (ieee binary64) values) u₀ u

@@ -18,7 +18,7 @@ use Rattle.storage.proofs.Kept.{kept-all, kept-then, kept-more}
 use Rattle.storage.proofs.Places.{lIndex-injective}
 use Rattle.ranges.specs.Written.{from, Among}
 use Rattle.transforms.specs.RowsTransformed.{RowsTransformed}
-use Rattle.forward.specs.Performed.{workOf, Performed}
+use Rattle.buffers.specs.Performed.{workOf, Performed}
 
 module _ (N : NumberForm) where
   open NumberForm N using (Value)

@@ -1,28 +1,31 @@
--- `read_l_column`: one entry a turn.
+-- `read_u_column`: one entry a turn.
 use borrow.Author.Needs.{needs}
 use mathlib.Core.Path.{_≡_}
-use Prim.Native.Nat.{_-_, _≤_}
+use Prim.Native.Nat.{_+_, _-_, _≤_}
 use native.Mathlib.Omega.{arith}
 use lib.Ieee.{binary64}
 use Rattle.numbers.specs.NumberForm.{ieee}
 use Rattle.machine.specs.Products.{entry}
-use Rattle.storage.specs.Views.{viewL}
+use Rattle.storage.specs.Views.{viewU}
 use Rattle.ranges.specs.Written.{Written}
 use Rattle.ranges.proofs.Writing.{written-none, written-more, apart}
-use Rattle.columns.proofs.read_l_column.Statement.{statement}
-use Rattle.columns.proofs.read_l_column.Tie as tie
+use Rattle.u_columns.proofs.read_u_column.Statement.{statement}
+use Rattle.u_columns.proofs.read_u_column.Tie as tie
 
 abbrev Inv-loop : tie.InvT-loop
-Inv-loop l column rows stride values₀ i₀ values i = (i ≤ rows) × Written (ieee binary64) (λ j. j) i (λ j. viewL (ieee binary64) stride l j column) values₀ values
+Inv-loop u column stride values₀ i₀ i-end values i = (i ≤ column + 1) × Written (ieee binary64) (λ j. j) i (λ j. viewU (ieee binary64) stride u j column) values₀ values
 
 abbrev μ-loop : tie.MeasureT-loop
-μ-loop l column rows stride values₀ i₀ values i = rows - i
+μ-loop u column stride values₀ i₀ i-end values i = column + 1 - i
+
+add-i-end : tie.Need-add-i-end Inv-loop μ-loop
+add-i-end c = omega arith
 
 loop-holds : tie.Need-loop-holds Inv-loop μ-loop
 loop-holds c = (search needs, written-none (ieee binary64))
 
-l-index-requires : tie.Need-l-index-requires Inv-loop μ-loop
-l-index-requires c κs = search needs
+u-index-requires : tie.Need-u-index-requires Inv-loop μ-loop
+u-index-requires c κs = search needs
 
 mul-values : tie.Need-mul-values Inv-loop μ-loop
 mul-values c = omega arith
@@ -43,22 +46,23 @@ loop-less : tie.Need-loop-less Inv-loop μ-loop
 loop-less c = omega arith
 
 loop-again : tie.Need-loop-again Inv-loop μ-loop
-loop-again c = (omega arith, written-more (ieee binary64) (apart (ieee binary64) _) (c .before .before .before .loop .inv .1) (omega arith) (rw (c .before .l-index .ensures .0)))
+loop-again c = (omega arith, written-more (ieee binary64) (apart (ieee binary64) _) (c .before .before .before .loop .inv .1) (omega arith) (rw (c .before .u-index .ensures .0)))
 
 same-length : tie.Need-same-length Inv-loop μ-loop
 same-length c = c .before .loop .inv .1 .kept .long
 
 returns : tie.Need-returns Inv-loop μ-loop
-returns c = let e : c .before .loop .i ≡ c .before .before .before .before .args .rows = omega arith in rw e at (c .before .loop .inv .1)
+returns c = let e : c .before .loop .i ≡ c .before .before .before .before .args .column + 1 = omega arith in rw e at (c .before .loop .inv .1)
 
-pub read-l-column-spec : {M : Type 1} → statement M
-read-l-column-spec =
+pub read-u-column-spec : {M : Type 1} → statement M
+read-u-column-spec =
     tie.close
     (tie.spec
     Inv-loop
     μ-loop
+    add-i-end
     loop-holds
-    l-index-requires
+    u-index-requires
     mul-values
     shared-slice-read-values
     mul-values-2
