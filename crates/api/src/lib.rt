@@ -132,7 +132,8 @@ pub enum Readiness {
 
 // Every call tests the storage that it is lent (InvalidDimension, SizeOverflow, InsufficientStorage), an update then its workspaces, which have one length
 // (InsufficientStorage), and then what its comment names, in that order. A refused call writes nothing and hands the state back as it was. An update leaves
-// the workspaces from the larger dimension on, and what lies outside the active entries, as they were; their entries below are scratch.
+// the workspaces from the larger dimension on, and what lies outside the active entries, as they were. Scratch are the workspaces' entries below, and the row
+// and the column that remove drops.
 impl LuMod {
     // The lengths of L and U that a capacity needs. SizeOverflow where capacity + 1 or L's length exceeds usize.
     pub fn storage_lengths(capacity: usize) -> RequiredLengths
