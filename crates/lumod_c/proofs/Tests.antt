@@ -13,7 +13,7 @@ use Rattle.numbers.specs.NumberForm.{NumberForm}
 use Rattle.machine.specs.Calls.{Answer, _orElse_, refusalNumber, refuseIf}
 use Rattle.machine.proofs.Refusals.{none-is-some}
 use Rattle.storage.specs.Places.{uLength}
-use Rattle.zero_based.specs.Numbers.{sizeOf, outside}
+use Rattle.host_numbers.specs.Numbers.{sizeOf, outside}
 use Rattle.zero_based.specs.Refusals.{indexOutside, passedOver, updateLacksRoom, productLacksRoom, solveLacksRoom}
 use Rattle.lumod_c.specs.Outcome.{Outcome, Untouched}
 

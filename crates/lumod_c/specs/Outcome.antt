@@ -15,7 +15,7 @@ use Rattle.machine.specs.Calls.{Answer, refusalNumber}
 use Rattle.storage.specs.Views.{viewL, viewU}
 use Rattle.ranges.specs.Written.{Written}
 use Rattle.modes.specs.UpdateDone.{UpdateDone}
-use Rattle.zero_based.specs.Numbers.{sizeOf, strideOf}
+use Rattle.host_numbers.specs.Numbers.{sizeOf, strideOf}
 use Rattle.zero_based.specs.Refusals.{updateRefusal, productRefusal, solveRefusal}
 
 -- A call that a test refuses returns the refusal's number and leaves all untouched; any other returns 0 and is performed.

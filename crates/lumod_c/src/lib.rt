@@ -4,6 +4,8 @@ ghost use lib.Ieee.{binary64};
 ghost use Rattle.numbers.specs.NumberForm.{ieee};
 ghost use Rattle.numbers.specs.Tolerances.{zeroBasedEpsilon, zeroBasedTiny};
 ghost use Rattle.lumod_c.specs.Outcome.{ProductOutcome, SolveOutcome, UpdateOutcome};
+use host_numbers::size;
+use host_numbers::stride;
 use modes::perform;
 use products::l_product;
 use products::l_product_transposed;
@@ -11,9 +13,7 @@ use substitutions::back_substitute;
 use substitutions::forward_substitute;
 use zero_based::passed_over;
 use zero_based::product_lacks_room;
-use zero_based::size;
 use zero_based::solve_lacks_room;
-use zero_based::stride;
 use zero_based::update_lacks_room;
 
 pub mod managed_calls;

@@ -7,7 +7,7 @@ use lib.Dec.{ltb, eqb}
 use lib.IntN.{ℤ, pos, negsuc}
 use Rattle.machine.specs.Calls.{Answer, _orElse_, refusalNumber, refuseIf}
 use Rattle.storage.specs.Places.{uLength}
-use Rattle.zero_based.specs.Numbers.{sizeOf, strideOf, outside}
+use Rattle.host_numbers.specs.Numbers.{sizeOf, strideOf, outside}
 
 -- `mode`, a size, is one of two modes and the index that they use isn't 0 to n − 1
 abbrev pub indexOutside : ℕ → ℕ → ℤ → ℕ → Bool

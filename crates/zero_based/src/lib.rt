@@ -1,40 +1,8 @@
-// What the zero-based calls refuse, and the sizes that a host's numbers stand for.
+// What the zero-based calls refuse.
 ghost use mathlib.Core.Path.{_≡_};
 ghost use Prim.Native.Nat.{_^_, _<_};
-ghost use Rattle.zero_based.specs.Numbers.{sizeOf, strideOf};
-ghost use Rattle.zero_based.specs.Numbers;
 ghost use Rattle.zero_based.specs.Refusals.{indexOutside, passedOver, updateLacksRoom, productLacksRoom, solveLacksRoom};
-
-// A number as a size, 0 where it is negative.
-pub fn size(number: i32) -> usize
-    ensures { λ r. ⌜ (r ≡ sizeOf number) × (r < 2 ^ 31) ⌝ }
-{
-    if number < 0 {
-        return 0;
-    }
-    number as usize
-}
-
-// The larger of maxmod and 1.
-pub fn stride(maxmod: i32) -> usize
-    ensures { λ r. ⌜ (r ≡ strideOf maxmod) × (r < 2 ^ 31) ⌝ }
-{
-    let found = size(maxmod);
-    if found < 1 {
-        return 1;
-    }
-    found
-}
-
-// Whether an index is not 0 to n - 1.
-pub fn outside(index: i32, n: usize) -> bool
-    ensures { λ r. ⌜ r ≡ Numbers.outside index n ⌝ }
-{
-    if index < 0 {
-        return true;
-    }
-    size(index) >= n
-}
+use host_numbers::outside;
 
 // Whether a mode is `own` or 4, the modes that use the index, and the index is outside.
 pub fn index_outside(mode: usize, own: usize, index: i32, n: usize) -> bool

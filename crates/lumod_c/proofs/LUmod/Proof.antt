@@ -8,7 +8,7 @@ use denote.Ref.{now}
 use lib.Ieee.{binary64}
 use lib.ListN.{length}
 use Rattle.numbers.specs.NumberForm.{ieee}
-use Rattle.zero_based.specs.Numbers.{sizeOf, strideOf}
+use Rattle.host_numbers.specs.Numbers.{sizeOf, strideOf}
 use Rattle.zero_based.specs.Refusals.{passedOver, updateLacksRoom}
 use Rattle.lumod_c.proofs.Tests.{passed, update-room, outcome-11, outcome-12, outcome-0, untouched}
 use Rattle.lumod_c.proofs.LUmod.Statement.{statement}

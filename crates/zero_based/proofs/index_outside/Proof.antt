@@ -5,7 +5,7 @@ use Prim.Native.Nat.{_-_}
 use borrow.Author.Tests.{eq-eqb, ne-eqb}
 use mir.Facts.{toZ-ofZ}
 use lib.IntN.{ℤ}
-use Rattle.zero_based.specs.Numbers.{outside}
+use Rattle.host_numbers.specs.Numbers.{outside}
 use Rattle.zero_based.proofs.index_outside.Statement.{statement}
 use Rattle.zero_based.proofs.index_outside.Tie as tie
 

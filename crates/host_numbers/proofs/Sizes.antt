@@ -10,7 +10,7 @@ use mir.Syntax.{w32, w64}
 use mir.Val.{Fits, SFits, toZ, ofZ}
 use mir.Facts.{toZ-ofZ}
 use borrow.Author.Tests.{ltb-true}
-use Rattle.zero_based.specs.Numbers.{sizeOf, outside}
+use Rattle.host_numbers.specs.Numbers.{sizeOf, outside}
 
 negative-size : (z : ℤ) → ltZ z (pos 0) ≡ true → 0 ≡ sizeOf z
 negative-size (pos k) e = absurd (omega (arith, ltb-true k 0 e))

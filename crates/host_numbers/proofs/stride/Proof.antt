@@ -4,9 +4,9 @@ use mathlib.Core.Path.{ap, _∙_}
 use Prim.Native.Nat.{_-_}
 use native.Mathlib.Omega.{arith}
 use mir.Facts.{toZ-ofZ}
-use Rattle.zero_based.specs.Numbers.{sizeOf}
-use Rattle.zero_based.proofs.stride.Statement.{statement}
-use Rattle.zero_based.proofs.stride.Tie as tie
+use Rattle.host_numbers.specs.Numbers.{sizeOf}
+use Rattle.host_numbers.proofs.stride.Statement.{statement}
+use Rattle.host_numbers.proofs.stride.Tie as tie
 
 size-requires : tie.Need-size-requires
 size-requires c κs = search needs

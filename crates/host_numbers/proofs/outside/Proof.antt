@@ -1,10 +1,10 @@
 -- `outside`: a negative index apart.
 use borrow.Author.Needs.{needs}
 use Prim.Native.Nat.{_-_}
-use Rattle.zero_based.specs.Numbers.{outside}
-use Rattle.zero_based.proofs.Sizes.{outside-negative, outside-whole}
-use Rattle.zero_based.proofs.outside.Statement.{statement}
-use Rattle.zero_based.proofs.outside.Tie as tie
+use Rattle.host_numbers.specs.Numbers.{outside}
+use Rattle.host_numbers.proofs.Sizes.{outside-negative, outside-whole}
+use Rattle.host_numbers.proofs.outside.Statement.{statement}
+use Rattle.host_numbers.proofs.outside.Tie as tie
 
 returns : tie.Need-returns
 returns c = outside-negative (c .before .args .index) (c .before .fits .index) (c .before .args .n) (c .if1 .taken)

@@ -1,9 +1,9 @@
 -- `size`: a negative number apart.
 use Prim.Native.Nat.{_-_}
 use native.Mathlib.Omega.{arith}
-use Rattle.zero_based.proofs.Sizes.{size-negative, size-whole}
-use Rattle.zero_based.proofs.size.Statement.{statement}
-use Rattle.zero_based.proofs.size.Tie as tie
+use Rattle.host_numbers.proofs.Sizes.{size-negative, size-whole}
+use Rattle.host_numbers.proofs.size.Statement.{statement}
+use Rattle.host_numbers.proofs.size.Tie as tie
 
 returns : tie.Need-returns
 returns c = (size-negative (c .before .args .number) (c .before .fits .number) (c .if1 .taken), omega arith)
