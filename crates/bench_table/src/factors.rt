@@ -12,35 +12,75 @@ use api::RemoveAnswer;
 use api::RowIndex;
 use refusals::Refusal;
 
+// The state, L and U.
+struct Factors {
+    state: LuMod,
+    l: [f64; 6],
+    u: [f64; 3],
+}
+
+// Pushes, with workspaces of its own.
+fn push(
+    state: LuMod,
+    l: &mut [f64; 6],
+    u: &mut [f64; 3],
+    row: &[f64],
+    column: &[f64],
+    diagonal: f64,
+) -> LuMod {
+    let mut y = [0.0; 2];
+    let mut z = [0.0; 2];
+    let mut w = [0.0; 2];
+    let result = state.push(l, u, &mut y, &mut z, &mut w, row, column, diagonal);
+    result.state
+}
+
+// From empty, push d.
+fn push_first(diagonal: f64) -> Factors {
+    let mut l = [0.0; 6];
+    let mut u = [0.0; 3];
+    let none = [0.0; 0];
+    let empty = LuMod { n: 0, capacity: 2 };
+    let state = push(empty, &mut l, &mut u, &none, &none, diagonal);
+    Factors { state, l, u }
+}
+
 // The table's P: from empty, push d 2, then push row (4), column (6), d 1.
-fn make_p(l: &mut [f64], u: &mut [f64], y: &mut [f64], z: &mut [f64], w: &mut [f64]) -> LuMod {
+fn make_p() -> Factors {
+    let first = push_first(2.0);
+    let mut l = first.l;
+    let mut u = first.u;
     let row = [4.0; 1];
     let column = [6.0; 1];
-    let empty = LuMod { n: 0, capacity: 2 };
-    let first = empty.push(l, u, y, z, w, &row[..0], &column[..0], 2.0);
-    let second = first.state.push(l, u, y, z, w, &row, &column, 1.0);
-    second.state
+    let state = push(first.state, &mut l, &mut u, &row, &column, 1.0);
+    Factors { state, l, u }
+}
+
+// A double after another.
+fn next(x: f64) {
+    text(b", ");
+    double(x);
 }
 
 fn pair(first: f64, second: f64) {
     text(b"(");
     double(first);
-    text(b", ");
-    double(second);
+    next(second);
     text(b")");
 }
 
-fn factors(l: &[f64; 6], u: &[f64; 3]) {
+fn l_entries(l: &[f64; 6]) {
     text(b": L ");
     pair(l[0], l[1]);
     text(b", ");
     pair(l[2], l[3]);
+}
+
+fn u_entries(u: &[f64; 3]) {
     text(b"; U ");
     double(u[0]);
-    text(b", ");
-    double(u[1]);
-    text(b", ");
-    double(u[2]);
+    next(u[1]);
+    next(u[2]);
     text(b"\n");
 }
 
@@ -60,43 +100,37 @@ fn refusal(found: Refusal) {
 }
 
 pub fn p() {
-    let mut l = [0.0; 6];
-    let mut u = [0.0; 3];
-    let mut y = [0.0; 2];
-    let mut z = [0.0; 2];
-    let mut w = [0.0; 2];
-    make_p(&mut l, &mut u, &mut y, &mut z, &mut w);
+    let p = make_p();
+    let l = p.l;
+    let u = p.u;
     text(b"P");
-    factors(&l, &u);
+    l_entries(&l);
+    u_entries(&u);
 }
 
-// P with column 0 or row 0 replaced by (first, second).
-pub fn replaced(is_column: bool, first: f64, second: f64) {
-    let mut l = [0.0; 6];
-    let mut u = [0.0; 3];
+// Replaces column 0 or row 0, with workspaces of its own.
+fn replace(p: LuMod, is_column: bool, l: &mut [f64; 6], u: &mut [f64; 3], values: &[f64]) {
     let mut y = [0.0; 2];
     let mut z = [0.0; 2];
     let mut w = [0.0; 2];
-    let p = make_p(&mut l, &mut u, &mut y, &mut z, &mut w);
+    if is_column {
+        p.replace_column(l, u, &mut y, &mut z, &mut w, ColumnIndex(0), values);
+        return;
+    }
+    p.replace_row(l, u, &mut y, &mut z, &mut w, RowIndex(0), values);
+}
+
+// By what column 0 or row 0 is replaced, and L and U then.
+pub fn replaced(is_column: bool, first: f64, second: f64) {
+    let p = make_p();
+    let mut l = p.l;
+    let mut u = p.u;
     let mut values = [first; 2];
     values[1] = second;
-    if is_column {
-        p.replace_column(
-            &mut l,
-            &mut u,
-            &mut y,
-            &mut z,
-            &mut w,
-            ColumnIndex(0),
-            &values,
-        );
-        text(b"P, replace column 0 by ");
-    } else {
-        p.replace_row(&mut l, &mut u, &mut y, &mut z, &mut w, RowIndex(0), &values);
-        text(b"P, replace row 0 by ");
-    }
+    replace(p.state, is_column, &mut l, &mut u, &values);
     pair(first, second);
-    factors(&l, &u);
+    l_entries(&l);
+    u_entries(&u);
 }
 
 fn moved(removal: Removal) {
@@ -112,27 +146,24 @@ fn moved(removal: Removal) {
     }
 }
 
-pub fn removed() {
-    let mut l = [0.0; 6];
-    let mut u = [0.0; 3];
+// Removes row 1 and column 1, with workspaces of its own.
+fn remove(p: LuMod, l: &mut [f64; 6], u: &mut [f64; 3]) -> RemoveAnswer {
     let mut y = [0.0; 2];
     let mut z = [0.0; 2];
     let mut w = [0.0; 2];
-    let p = make_p(&mut l, &mut u, &mut y, &mut z, &mut w);
-    let result = p.remove(
-        &mut l,
-        &mut u,
-        &mut y,
-        &mut z,
-        &mut w,
-        RowIndex(1),
-        ColumnIndex(1),
-    );
+    let result = p.remove(l, u, &mut y, &mut z, &mut w, RowIndex(1), ColumnIndex(1));
+    result.answer
+}
+
+pub fn removed() {
+    let p = make_p();
+    let mut l = p.l;
+    let mut u = p.u;
+    let answer = remove(p.state, &mut l, &mut u);
     text(b"P, remove 1, 1: L ");
     double(l[0]);
     text(b", U ");
     double(u[0]);
-    let answer = result.answer;
     match answer {
         RemoveAnswer::Removed(removal) => moved(removal),
         RemoveAnswer::Refused(found) => refusal(found),
@@ -140,23 +171,30 @@ pub fn removed() {
     text(b"\n");
 }
 
-// P, solve or transpose solve (first, second).
+// Solves or transpose solves.
+fn solve(
+    state: LuMod,
+    transposed: bool,
+    l: &mut [f64; 6],
+    u: &[f64; 3],
+    rhs: &mut [f64],
+) -> Answer {
+    if transposed {
+        let result = state.solve_transpose_in_place(l, u, rhs);
+        return result.answer;
+    }
+    let result = state.solve_in_place(l, u, rhs);
+    result.answer
+}
+
+// The right-hand side, and what P solves or transpose solves it to.
 pub fn solved(transposed: bool, first: f64, second: f64) {
-    let mut l = [0.0; 6];
-    let mut u = [0.0; 3];
-    let mut y = [0.0; 2];
-    let mut z = [0.0; 2];
-    let mut w = [0.0; 2];
-    let p = make_p(&mut l, &mut u, &mut y, &mut z, &mut w);
+    let p = make_p();
+    let mut l = p.l;
+    let u = p.u;
     let mut rhs = [first; 2];
     rhs[1] = second;
-    if transposed {
-        p.solve_transpose_in_place(&mut l, &u, &mut rhs);
-        text(b"P, transpose solve ");
-    } else {
-        p.solve_in_place(&mut l, &u, &mut rhs);
-        text(b"P, solve ");
-    }
+    solve(p.state, transposed, &mut l, &u, &mut rhs);
     pair(first, second);
     text(b": ");
     pair(rhs[0], rhs[1]);
@@ -165,28 +203,12 @@ pub fn solved(transposed: bool, first: f64, second: f64) {
 
 // Empty, push d -0, solve (5): refused, and (5) stands.
 pub fn refused() {
-    let mut l = [0.0; 6];
-    let mut u = [0.0; 3];
-    let mut y = [0.0; 2];
-    let mut z = [0.0; 2];
-    let mut w = [0.0; 2];
-    let row = [0.0; 1];
-    let column = [0.0; 1];
+    let pushed = push_first(-0.0);
+    let mut l = pushed.l;
+    let u = pushed.u;
     let mut rhs = [5.0; 1];
-    let empty = LuMod { n: 0, capacity: 2 };
-    let pushed = empty.push(
-        &mut l,
-        &mut u,
-        &mut y,
-        &mut z,
-        &mut w,
-        &row[..0],
-        &column[..0],
-        -0.0,
-    );
-    let result = pushed.state.solve_in_place(&mut l, &u, &mut rhs);
+    let answer = solve(pushed.state, false, &mut l, &u, &mut rhs);
     text(b"push d -0, solve (5): ");
-    let answer = result.answer;
     match answer {
         Answer::Done => text(b"solved"),
         Answer::Refused(found) => refusal(found),

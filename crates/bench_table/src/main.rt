@@ -41,11 +41,8 @@ fn place(row: usize, column: usize)
     text(b"\n");
 }
 
-fn pair(first: f64, second: f64) {
-    text(b"pair ");
-    double(first);
-    text(b", ");
-    double(second);
+// What the pair step makes of two numbers.
+fn transformed(first: f64, second: f64) {
     let mut x = first;
     let mut y = second;
     let transform = elementary(&mut x, &mut y, managed());
@@ -58,6 +55,14 @@ fn pair(first: f64, second: f64) {
     }
     double(x);
     text(b"\n");
+}
+
+fn pair(first: f64, second: f64) {
+    text(b"pair ");
+    double(first);
+    text(b", ");
+    double(second);
+    transformed(first, second);
 }
 
 fn main() {
@@ -74,9 +79,13 @@ fn main() {
     pair(3.0, -3.0);
     pair(0.0 / 0.0, 0.0);
     factors::p();
+    text(b"P, solve ");
     factors::solved(false, 8.0, 5.0);
+    text(b"P, transpose solve ");
     factors::solved(true, 6.0, 7.0);
+    text(b"P, replace column 0 by ");
     factors::replaced(true, 1.0, 8.0);
+    text(b"P, replace row 0 by ");
     factors::replaced(false, 1.0, 1.0);
     factors::removed();
     factors::refused();

@@ -7,6 +7,7 @@ use crate::answer::adoption_of;
 use crate::answer::answer_of;
 use crate::answer::readiness_of;
 use crate::answer::remove_answer_of;
+use crate::buffers::Buffers;
 use api::ColumnIndex;
 use api::LuMod;
 use api::RowIndex;
@@ -26,6 +27,12 @@ pub struct Call {
     pub row: usize,
     pub column: usize,
     pub diagonal: f64,
+}
+
+// What a call answered, and the buffers as it left them.
+pub struct Called {
+    pub answer: Answered,
+    pub buffers: Buffers,
 }
 
 // The functions, by the numbers that records have for them.
@@ -102,71 +109,58 @@ fn other(call: Call, l: &mut [f64], u: &[f64], first: &mut [f64]) -> Answered {
 }
 
 // How much of a buffer a call is lent: the length that its record says, or all.
-fn lent(count: usize, buffer: &[f64]) -> usize
+pub fn lent(count: usize, buffer: &[f64; 256]) -> usize
     ensures { λ r. ⌜ (r ≤ length (now (buffer .entry))) × (r ≡ length (take r (now (buffer .entry)))) ⌝ }
 {
-    if count < buffer.len() {
+    let all: &[f64] = buffer;
+    if count < all.len() {
         return count;
     }
-    buffer.len()
+    all.len()
 }
 
 // Makes an update, with its buffers at the lengths that the record says.
-fn call_update(
-    call: Call,
-    l: &mut [f64],
-    u: &mut [f64],
-    y: &mut [f64],
-    z: &mut [f64],
-    w: &mut [f64],
-    first: &[f64],
-    second: &[f64],
-) -> Answered {
-    let l_length = lent(call.l, l);
-    let u_length = lent(call.u, u);
-    let y_length = lent(call.y, y);
-    let z_length = lent(call.z, z);
-    let w_length = lent(call.w, w);
-    let first_length = lent(call.first, first);
-    let second_length = lent(call.second, second);
-    update(
+fn make_update(call: Call, before: Buffers, first: &[f64], second: &[f64]) -> Called {
+    let mut l = before.l;
+    let mut u = before.u;
+    let mut y = before.y;
+    let mut z = before.z;
+    let mut w = before.w;
+    let l_length = lent(call.l, &l);
+    let u_length = lent(call.u, &u);
+    let y_length = lent(call.y, &y);
+    let z_length = lent(call.z, &z);
+    let w_length = lent(call.w, &w);
+    let answer = update(
         call,
         &mut l[..l_length],
         &mut u[..u_length],
         &mut y[..y_length],
         &mut z[..z_length],
         &mut w[..w_length],
-        &first[..first_length],
-        &second[..second_length],
-    )
+        first,
+        second,
+    );
+    let buffers = Buffers { l, u, y, z, w };
+    Called { answer, buffers }
 }
 
 // Makes a call that is no update, in the same way.
-fn call_other(call: Call, l: &mut [f64], u: &[f64], first: &mut [f64]) -> Answered {
-    let l_length = lent(call.l, l);
-    let u_length = lent(call.u, u);
-    let first_length = lent(call.first, first);
-    other(
-        call,
-        &mut l[..l_length],
-        &u[..u_length],
-        &mut first[..first_length],
-    )
+fn make_other(call: Call, before: Buffers, first: &mut [f64]) -> Called {
+    let mut l = before.l;
+    let u = before.u;
+    let l_length = lent(call.l, &l);
+    let u_length = lent(call.u, &u);
+    let answer = other(call, &mut l[..l_length], &u[..u_length], first);
+    let mut buffers = before;
+    buffers.l = l;
+    Called { answer, buffers }
 }
 
 // Makes any call.
-pub fn make_call(
-    call: Call,
-    l: &mut [f64],
-    u: &mut [f64],
-    y: &mut [f64],
-    z: &mut [f64],
-    w: &mut [f64],
-    first: &mut [f64],
-    second: &[f64],
-) -> Answered {
+pub fn make_call(call: Call, before: Buffers, first: &mut [f64], second: &[f64]) -> Called {
     if call.function <= REMOVE {
-        return call_update(call, l, u, y, z, w, first, second);
+        return make_update(call, before, first, second);
     }
-    call_other(call, l, u, first)
+    make_other(call, before, first)
 }

@@ -1,8 +1,5 @@
-// Comparing what a call left with what is stored, bit for bit with all NaNs alike.
-use crate::sample::after;
-use crate::sample::double;
-use crate::sample::sum;
-use crate::sample::word;
+// Comparing bit for bit, with all NaNs alike.
+use crate::buffers::Buffers;
 
 fn same(x: f64, y: f64) -> bool {
     if x != x {
@@ -14,62 +11,24 @@ fn same(x: f64, y: f64) -> bool {
     f64::to_bits(x) == f64::to_bits(y)
 }
 
-// Whether `count` entries of a buffer from `start` on differ from the sample's words.
-pub fn entries_differ(data: &[u8], at: usize, count: usize, buffer: &[f64], start: usize) -> bool {
-    let mut i = 0;
-    while i < count {
-        let entry = sum(start, i);
-        if entry >= buffer.len() {
+// Whether two vectors differ.
+pub fn vectors_differ(a: &[f64; 256], b: &[f64; 256]) -> bool {
+    for i in 0..256 {
+        if !same(a[i], b[i]) {
             return true;
         }
-        if !same(buffer[entry], double(word(data, after(at, i)))) {
-            return true;
-        }
-        i += 1;
     }
     false
 }
 
-// Whether an active entry of L or U differs from the stored factors.
-pub fn factors_differ(
-    data: &[u8],
-    at: usize,
-    n: usize,
-    capacity: usize,
-    l: &[f64],
-    u: &[f64],
-) -> bool {
-    let mut row_at = at;
-    let mut l_start = 0;
-    let mut u_start = 0;
-    let mut step = capacity;
-    let mut left = n;
-    while left > 0 {
-        if entries_differ(data, row_at, n, l, l_start) {
-            return true;
-        }
-        row_at = after(row_at, n);
-        if entries_differ(data, row_at, left, u, u_start) {
-            return true;
-        }
-        row_at = after(row_at, left);
-        l_start = sum(l_start, capacity);
-        u_start = sum(u_start, step);
-        if step > 0 {
-            step -= 1;
-        }
-        left -= 1;
+// Whether L or U differ.
+pub fn factors_differ(a: Buffers, b: Buffers) -> bool {
+    let a_l = a.l;
+    let b_l = b.l;
+    if vectors_differ(&a_l, &b_l) {
+        return true;
     }
-    false
-}
-
-// The position after stored factors.
-pub fn factors_end(at: usize, n: usize) -> usize {
-    let mut end = at;
-    let mut left = n;
-    while left > 0 {
-        end = after(after(end, n), left);
-        left -= 1;
-    }
-    end
+    let a_u = a.u;
+    let b_u = b.u;
+    vectors_differ(&a_u, &b_u)
 }

@@ -3,60 +3,61 @@ use crate::print::number;
 use crate::print::size;
 use crate::print::text;
 
-// Where the counts of calls and of differences stand, after those of answers by their numbers 0 to 10.
-pub const CALLS: usize = 11;
-
-const DIFFERENCES: usize = 12;
-
-pub fn count(counts: &mut [u64], which: usize) {
-    if which < counts.len() {
-        counts[which] = std::num::wrapping_add_u64(counts[which], 1);
-    }
+// How many calls there were, how many differences, and how many answers of each number.
+pub struct Counts {
+    pub calls: u64,
+    pub differences: u64,
+    pub answers: [u64; 11],
 }
 
-fn counted(counts: &[u64], which: usize) -> u64 {
-    if which < counts.len() {
-        return counts[which];
+fn more(n: u64) -> u64 {
+    std::num::wrapping_add_u64(n, 1)
+}
+
+// Counts a call and its answer.
+pub fn count(before: Counts, number: usize) -> Counts {
+    let mut counts = before;
+    counts.calls = more(counts.calls);
+    if number < 11 {
+        counts.answers[number] = more(counts.answers[number]);
     }
-    0
+    counts
 }
 
 // Counts a difference, where there is one, and names the first few.
-pub fn note(list: usize, call: usize, differs: bool, what: &[u8], counts: &mut [u64]) {
+pub fn note(list: usize, call: usize, differs: bool, what: &[u8], before: Counts) -> Counts {
     if !differs {
-        return;
+        return before;
     }
-    count(counts, DIFFERENCES);
-    if counted(counts, DIFFERENCES) > 8 {
-        return;
+    let mut counts = before;
+    counts.differences = more(counts.differences);
+    if counts.differences > 8 {
+        return counts;
     }
     text(b"list ");
     size(list);
     text(b", call ");
     size(call);
-    text(b": ");
     text(what);
-    text(b"\n");
+    counts
 }
 
 // How often each refusal was given.
-fn refusals(counts: &[u64]) {
-    let mut i = 1;
-    while i <= 10 {
+fn refusals(counts: Counts) {
+    for i in 1..11 {
         text(b" ");
-        number(counted(counts, i));
-        i += 1;
+        number(counts.answers[i]);
     }
 }
 
 // The line at the end.
-pub fn summary(lists: usize, counts: &[u64]) {
+pub fn summary(lists: usize, counts: Counts) {
     size(lists);
     text(b" lists, ");
-    number(counted(counts, CALLS));
+    number(counts.calls);
     text(b" calls, refusals 1 to 10:");
     refusals(counts);
     text(b", ");
-    number(counted(counts, DIFFERENCES));
+    number(counts.differences);
     text(b" differences\n");
 }

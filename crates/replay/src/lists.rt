@@ -1,16 +1,17 @@
 // The lists of calls, one after the other.
 use crate::answer::Answered;
 use crate::answer::answers_differ;
-use crate::buffers::copy_in;
-use crate::buffers::fill;
+use crate::buffers::Buffers;
 use crate::buffers::garbage;
-use crate::buffers::place_factors;
+use crate::buffers::placed;
+use crate::buffers::vector;
 use crate::call::SOLVE;
 use crate::call::SOLVE_TRANSPOSE;
+use crate::call::lent;
 use crate::call::make_call;
-use crate::compare::entries_differ;
 use crate::compare::factors_differ;
-use crate::counts::CALLS;
+use crate::compare::vectors_differ;
+use crate::counts::Counts;
 use crate::counts::count;
 use crate::counts::note;
 use crate::counts::summary;
@@ -29,286 +30,181 @@ use crate::sample::word;
 // The first word of a sample: the bytes "LUMOD 1" and a line's end.
 const FIRST_WORD: u64 = 0x0A31_2044_4F4D_554C;
 
-// Whether the first vector is not the solved one after an accepted solve, or not as it was after any other call.
-fn vector_differs(data: &[u8], record: Record, first: &[f64]) -> bool {
+// A list under way: how far it has come, its buffers, and the counts of all calls so far.
+struct State {
+    progress: Progress,
+    buffers: Buffers,
+    counts: Counts,
+}
+
+// How far the lists have come, and the counts.
+struct Replayed {
+    progress: Progress,
+    counts: Counts,
+}
+
+// What a call answered, the buffers as it left them, and whether the first vector is another than is stored.
+struct Outcome {
+    answer: Answered,
+    buffers: Buffers,
+    other_vector: bool,
+}
+
+// Where the first vector is stored as a call leaves it: the solved one after an accepted solve, and as it was after any other call.
+fn vector_at(record: Record) -> usize {
     let call = record.call;
     if record.expected.number == 0 {
         if call.function == SOLVE {
-            return entries_differ(data, record.results_at, call.first, first, 0);
+            return record.results_at;
         }
         if call.function == SOLVE_TRANSPOSE {
-            return entries_differ(data, record.results_at, call.first, first, 0);
+            return record.results_at;
         }
     }
-    entries_differ(data, record.first_at, call.first, first, 0)
+    record.first_at
 }
 
-// Makes the call of a record with its vectors.
-fn perform(
-    data: &[u8],
-    record: Record,
-    l: &mut [f64],
-    u: &mut [f64],
-    y: &mut [f64],
-    z: &mut [f64],
-    w: &mut [f64],
-    first: &mut [f64],
-    second: &mut [f64],
-) -> Answered {
+// Makes the call of a record with its vectors, and compares the first.
+fn perform(data: &[u8], record: Record, before: Buffers) -> Outcome {
     let call = record.call;
-    copy_in(data, record.first_at, call.first, first, 0);
-    copy_in(data, record.second_at, call.second, second, 0);
-    make_call(call, l, u, y, z, w, first, second)
+    let mut first = vector(data, record.first_at, call.first);
+    let second = vector(data, record.second_at, call.second);
+    let first_length = lent(call.first, &first);
+    let second_length = lent(call.second, &second);
+    let called = make_call(
+        call,
+        before,
+        &mut first[..first_length],
+        &second[..second_length],
+    );
+    let expected = vector(data, vector_at(record), call.first);
+    let answer = called.answer;
+    let buffers = called.buffers;
+    Outcome {
+        answer,
+        buffers,
+        other_vector: vectors_differ(&first, &expected),
+    }
 }
 
-// Counts the call and its answer, and compares all that it answered and left.
+// Counts the call and its answer, and compares the answer and the factors.
 fn compare(
     data: &[u8],
     list: usize,
-    call_number: usize,
+    call: usize,
     capacity: usize,
-    record: Record,
+    expected: Answered,
     next: Progress,
-    answer: Answered,
-    l: &[f64],
-    u: &[f64],
-    first: &[f64],
-    counts: &mut [u64],
-) {
-    count(counts, CALLS);
-    count(counts, answer.number);
-    let expected = record.expected;
+    outcome: Outcome,
+    before: Counts,
+) -> Counts {
+    let answer = outcome.answer;
+    let buffers = outcome.buffers;
     let other_answer = answers_differ(answer, expected);
-    let other_factors = factors_differ(data, next.factors_at, next.dimension, capacity, l, u);
-    let other_vector = vector_differs(data, record, first);
-    note(list, call_number, other_answer, b"another answer", counts);
-    note(list, call_number, other_factors, b"other factors", counts);
-    note(list, call_number, other_vector, b"another vector", counts);
+    let stored = placed(data, next.factors_at, next.dimension, capacity, buffers);
+    let other_factors = factors_differ(buffers, stored);
+    let counts = count(before, answer.number);
+    let counts = note(list, call, other_answer, b": another answer\n", counts);
+    let counts = note(list, call, other_factors, b": other factors\n", counts);
+    note(
+        list,
+        call,
+        outcome.other_vector,
+        b": another vector\n",
+        counts,
+    )
 }
 
 // Reads a record, makes its call and compares.
-fn replay_call(
-    data: &[u8],
-    list: usize,
-    call_number: usize,
-    capacity: usize,
-    before: Progress,
-    l: &mut [f64],
-    u: &mut [f64],
-    y: &mut [f64],
-    z: &mut [f64],
-    w: &mut [f64],
-    first: &mut [f64],
-    second: &mut [f64],
-    counts: &mut [u64],
-) -> Progress {
-    let record = read_record(data, before.at);
-    let next = advance(data, capacity, before, record);
+fn replay_call(data: &[u8], list: usize, call: usize, capacity: usize, before: State) -> State {
+    let mut state = before;
+    let progress = before.progress;
+    let record = read_record(data, progress.at);
+    let next = advance(data, capacity, progress, record);
+    state.progress = next;
     if next.damaged {
-        return next;
+        return state;
     }
-    let answer = perform(data, record, l, u, y, z, w, first, second);
-    compare(
+    let outcome = perform(data, record, before.buffers);
+    let buffers = outcome.buffers;
+    let counts = compare(
         data,
         list,
-        call_number,
+        call,
         capacity,
-        record,
+        record.expected,
         next,
-        answer,
-        l,
-        u,
-        first,
-        counts,
+        outcome,
+        before.counts,
     );
-    next
+    State {
+        progress: next,
+        buffers,
+        counts,
+    }
 }
 
 // The calls of a list, counted from 1, from where its factors end.
-fn replay_calls(
-    data: &[u8],
-    list: usize,
-    calls: usize,
-    capacity: usize,
-    start: Progress,
-    l: &mut [f64],
-    u: &mut [f64],
-    y: &mut [f64],
-    z: &mut [f64],
-    w: &mut [f64],
-    first: &mut [f64],
-    second: &mut [f64],
-    counts: &mut [u64],
-) -> Progress {
-    let mut progress = start;
+fn replay_calls(data: &[u8], list: usize, calls: usize, capacity: usize, start: State) -> State {
+    let mut state = start;
     let mut i = 0;
     while i < calls {
         i += 1;
-        progress = replay_call(
-            data,
-            list,
-            i,
-            capacity,
-            progress,
-            l,
-            u,
-            y,
-            z,
-            w,
-            first,
-            second,
-            counts,
-        );
-        if progress.damaged {
-            return progress;
+        state = replay_call(data, list, i, capacity, state);
+        if state.progress.damaged {
+            return state;
         }
     }
-    progress
-}
-
-// Puts the factors that a list starts from into storage, with the garbage of the list around them and in the workspaces.
-fn prepare(
-    data: &[u8],
-    list: usize,
-    capacity: usize,
-    start: Progress,
-    l: &mut [f64],
-    u: &mut [f64],
-    y: &mut [f64],
-    z: &mut [f64],
-    w: &mut [f64],
-) {
-    let bits = garbage(list);
-    fill(l, bits);
-    fill(u, bits);
-    fill(y, bits);
-    fill(z, bits);
-    fill(w, bits);
-    place_factors(data, start.factors_at, start.dimension, capacity, l, u);
-}
-
-// A list from its start.
-fn replay_from(
-    data: &[u8],
-    list: usize,
-    calls: usize,
-    capacity: usize,
-    start: Progress,
-    l: &mut [f64],
-    u: &mut [f64],
-    y: &mut [f64],
-    z: &mut [f64],
-    w: &mut [f64],
-    first: &mut [f64],
-    second: &mut [f64],
-    counts: &mut [u64],
-) -> Progress {
-    prepare(data, list, capacity, start, l, u, y, z, w);
-    replay_calls(
-        data,
-        list,
-        calls,
-        capacity,
-        start,
-        l,
-        u,
-        y,
-        z,
-        w,
-        first,
-        second,
-        counts,
-    )
+    state
 }
 
 // A list: its number of calls, its capacity, its dimension, its factors and its calls.
-fn replay_list(
-    data: &[u8],
-    list: usize,
-    at: usize,
-    l: &mut [f64],
-    u: &mut [f64],
-    y: &mut [f64],
-    z: &mut [f64],
-    w: &mut [f64],
-    first: &mut [f64],
-    second: &mut [f64],
-    counts: &mut [u64],
-) -> Progress {
-    let calls = size(data, at);
-    let capacity = size(data, after(at, 1));
-    let start = start_of(data, at, capacity);
-    if start.damaged {
+fn replay_list(data: &[u8], list: usize, at: usize, counts: Counts) -> State {
+    let calls = size(data, at, 0);
+    let capacity = size(data, at, 1);
+    let progress = start_of(data, at, capacity);
+    let buffers = placed(
+        data,
+        progress.factors_at,
+        progress.dimension,
+        capacity,
+        garbage(list),
+    );
+    let start = State {
+        progress,
+        buffers,
+        counts,
+    };
+    if progress.damaged {
         return start;
     }
-    replay_from(
-        data,
-        list,
-        calls,
-        capacity,
-        start,
-        l,
-        u,
-        y,
-        z,
-        w,
-        first,
-        second,
-        counts,
-    )
+    replay_calls(data, list, calls, capacity, start)
 }
 
 // All lists, counted from 1, from the third word on.
-fn replay_lists(
-    data: &[u8],
-    lists: usize,
-    l: &mut [f64],
-    u: &mut [f64],
-    y: &mut [f64],
-    z: &mut [f64],
-    w: &mut [f64],
-    first: &mut [f64],
-    second: &mut [f64],
-    counts: &mut [u64],
-) -> Progress {
+fn replay_lists(data: &[u8], lists: usize) -> Replayed {
     let mut progress = Progress {
         damaged: false,
         at: 16,
         dimension: 0,
         factors_at: 0,
     };
+    let mut counts = Counts {
+        calls: 0,
+        differences: 0,
+        answers: [0; 11],
+    };
     let mut i = 0;
     while i < lists {
         i += 1;
-        progress = replay_list(data, i, progress.at, l, u, y, z, w, first, second, counts);
+        let state = replay_list(data, i, progress.at, counts);
+        progress = state.progress;
+        counts = state.counts;
         if progress.damaged {
-            return progress;
+            return Replayed { progress, counts };
         }
     }
-    progress
-}
-
-// Replays the sample with storage, workspaces and vectors of its own.
-fn replay_all(data: &[u8], lists: usize, counts: &mut [u64]) -> Progress {
-    let mut l = [0.0; 256];
-    let mut u = [0.0; 256];
-    let mut y = [0.0; 256];
-    let mut z = [0.0; 256];
-    let mut w = [0.0; 256];
-    let mut first = [0.0; 256];
-    let mut second = [0.0; 256];
-    replay_lists(
-        data,
-        lists,
-        &mut l,
-        &mut u,
-        &mut y,
-        &mut z,
-        &mut w,
-        &mut first,
-        &mut second,
-        counts,
-    )
+    Replayed { progress, counts }
 }
 
 fn damage(at: usize) {
@@ -331,9 +227,9 @@ pub fn replay(data: &[u8]) {
         damage(0);
         return;
     }
-    let lists = size(data, 8);
-    let mut counts = [0u64; 16];
-    let progress = replay_all(data, lists, &mut counts);
+    let lists = size(data, 8, 0);
+    let replayed = replay_lists(data, lists);
+    let progress = replayed.progress;
     if progress.damaged {
         damage(progress.at);
         return;
@@ -342,5 +238,6 @@ pub fn replay(data: &[u8]) {
         damage(progress.at);
         return;
     }
-    summary(lists, &counts);
+    let counts = replayed.counts;
+    summary(lists, counts);
 }

@@ -1,15 +1,14 @@
 // Reading the sample's lists and records, and how far a list has come.
 use crate::answer::Answered;
+use crate::buffers::factors_end;
 use crate::call::Call;
 use crate::call::FROM_STORAGE;
 use crate::call::REMOVE;
 use crate::call::SOLVE_TRANSPOSE;
-use crate::compare::factors_end;
 use crate::sample::after;
 use crate::sample::double;
 use crate::sample::length;
 use crate::sample::size;
-use crate::sample::sum;
 use crate::sample::word;
 
 // The largest capacity, for which L's storage has no more than 240 entries.
@@ -43,18 +42,18 @@ fn damaged_at(at: usize) -> Progress {
 
 fn read_call(data: &[u8], at: usize) -> Call {
     Call {
-        function: length(data, at),
-        l: length(data, sum(at, 1)),
-        u: length(data, sum(at, 2)),
-        y: length(data, sum(at, 3)),
-        z: length(data, sum(at, 4)),
-        w: length(data, sum(at, 5)),
-        first: length(data, sum(at, 6)),
-        second: length(data, sum(at, 7)),
-        dimension: size(data, after(at, 1)),
-        capacity: size(data, after(at, 2)),
-        row: size(data, after(at, 3)),
-        column: size(data, after(at, 4)),
+        function: length(data, at, 0),
+        l: length(data, at, 1),
+        u: length(data, at, 2),
+        y: length(data, at, 3),
+        z: length(data, at, 4),
+        w: length(data, at, 5),
+        first: length(data, at, 6),
+        second: length(data, at, 7),
+        dimension: size(data, at, 1),
+        capacity: size(data, at, 2),
+        row: size(data, at, 3),
+        column: size(data, at, 4),
         diagonal: double(word(data, after(at, 5))),
     }
 }
@@ -62,12 +61,12 @@ fn read_call(data: &[u8], at: usize) -> Call {
 // The answer to a call that lends a capacity.
 fn read_answer(data: &[u8], at: usize, capacity: usize) -> Answered {
     Answered {
-        number: size(data, at),
-        dimension: size(data, after(at, 1)),
+        number: size(data, at, 0),
+        dimension: size(data, at, 1),
         capacity,
-        index: size(data, after(at, 2)),
-        moved_row: size(data, after(at, 3)),
-        moved_column: size(data, after(at, 4)),
+        index: size(data, at, 2),
+        moved_row: size(data, at, 3),
+        moved_column: size(data, at, 4),
     }
 }
 
@@ -162,7 +161,7 @@ pub fn advance(data: &[u8], capacity: usize, before: Progress, record: Record) -
 
 // Where the calls of a list start: after its number of calls, its capacity, its dimension and its factors.
 pub fn start_of(data: &[u8], at: usize, capacity: usize) -> Progress {
-    let dimension = size(data, after(at, 2));
+    let dimension = size(data, at, 2);
     let factors_at = after(at, 3);
     if capacity > LARGEST_CAPACITY {
         return damaged_at(at);

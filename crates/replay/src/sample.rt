@@ -54,14 +54,14 @@ pub fn word(data: &[u8], at: usize) -> u64 {
     low | high << 32
 }
 
-// A length that is a byte.
-pub fn length(data: &[u8], at: usize) -> usize {
-    byte(data, at) as usize
+// A length: a byte of the word at a position.
+pub fn length(data: &[u8], at: usize, which: usize) -> usize {
+    byte(data, sum(at, which)) as usize
 }
 
-// A dimension, a capacity, an index or a count.
-pub fn size(data: &[u8], at: usize) -> usize {
-    word(data, at) as usize
+// A dimension, a capacity, an index or a count: the word that lies a number of words past a position.
+pub fn size(data: &[u8], at: usize, words: usize) -> usize {
+    word(data, after(at, words)) as usize
 }
 
 // The double that has these bits; all NaNs are one.

@@ -1,13 +1,11 @@
--- `copy_in`: each store lies within the buffer, which keeps its length.
+-- `copy_in`: each store lies within the buffer, and its loop ends.
 use borrow.Author.Needs.{needs}
-use mathlib.Core.Path.{_≡_}
 use Prim.Native.Nat.{_-_}
-use lib.ListN.{length}
 use Rattle.replay.proofs.buffers.copy_in.Statement.{statement}
 use Rattle.replay.proofs.buffers.copy_in.Tie as tie
 
 abbrev Inv-loop : tie.InvT-loop
-Inv-loop «data» at count buffer₀ start i₀ buffer i = length buffer ≡ length buffer₀
+Inv-loop «data» at count buffer₀ start i₀ buffer i = Unit {0}
 
 abbrev μ-loop : tie.MeasureT-loop
 μ-loop «data» at count buffer₀ start i₀ buffer i = count - i
@@ -17,9 +15,6 @@ loop-holds c = search needs
 
 sum-requires : tie.Need-sum-requires Inv-loop μ-loop
 sum-requires c κs = search needs
-
-same-length : tie.Need-same-length Inv-loop μ-loop
-same-length c = search needs
 
 returns : tie.Need-returns Inv-loop μ-loop
 returns c = search needs
@@ -36,8 +31,8 @@ double-requires c κs = search needs
 mul-buffer : tie.Need-mul-buffer Inv-loop μ-loop
 mul-buffer c = search needs
 
-slice-write-buffer : tie.Need-slice-write-buffer Inv-loop μ-loop
-slice-write-buffer c = search needs
+element-write-buffer : tie.Need-element-write-buffer Inv-loop μ-loop
+element-write-buffer c = search needs
 
 add-i : tie.Need-add-i Inv-loop μ-loop
 add-i c = search needs
@@ -47,9 +42,6 @@ loop-less c = search needs
 
 loop-again : tie.Need-loop-again Inv-loop μ-loop
 loop-again c = search needs
-
-same-length-2 : tie.Need-same-length-2 Inv-loop μ-loop
-same-length-2 c = search needs
 
 returns-2 : tie.Need-returns-2 Inv-loop μ-loop
 returns-2 c = search needs
@@ -62,15 +54,13 @@ copy-in-spec =
     μ-loop
     loop-holds
     sum-requires
-    same-length
     returns
     after-requires
     word-requires
     double-requires
     mul-buffer
-    slice-write-buffer
+    element-write-buffer
     add-i
     loop-less
     loop-again
-    same-length-2
     returns-2)

@@ -1,14 +1,14 @@
--- `refusals`: its loop ends.
+-- `refusals`: each read lies within the counts, and its loop ends.
 use borrow.Author.Needs.{needs}
 use Prim.Native.Nat.{_-_}
 use Rattle.replay.proofs.counts.refusals.Statement.{statement}
 use Rattle.replay.proofs.counts.refusals.Tie as tie
 
 abbrev Inv-loop : tie.InvT-loop
-Inv-loop counts i₀ t3 i = Unit {0}
+Inv-loop counts i₀ t4 i = Unit {0}
 
 abbrev μ-loop : tie.MeasureT-loop
-μ-loop counts i₀ t3 i = 11 - i
+μ-loop counts i₀ t4 i = 11 - i
 
 loop-holds : tie.Need-loop-holds Inv-loop μ-loop
 loop-holds c = search needs
@@ -19,8 +19,11 @@ slice-aggregate-text c = search needs
 text-requires : tie.Need-text-requires Inv-loop μ-loop
 text-requires c κs = search needs
 
-counted-requires : tie.Need-counted-requires Inv-loop μ-loop
-counted-requires c κs = search needs
+mul-number : tie.Need-mul-number Inv-loop μ-loop
+mul-number c = search needs
+
+element-copy-out-number : tie.Need-element-copy-out-number Inv-loop μ-loop
+element-copy-out-number c = search needs
 
 number-requires : tie.Need-number-requires Inv-loop μ-loop
 number-requires c κs = search needs
@@ -46,7 +49,8 @@ refusals-spec =
     loop-holds
     slice-aggregate-text
     text-requires
-    counted-requires
+    mul-number
+    element-copy-out-number
     number-requires
     add-i
     loop-less

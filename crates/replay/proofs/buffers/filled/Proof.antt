@@ -1,16 +1,14 @@
--- `fill`: each store lies within the buffer, which keeps its length.
+-- `filled`: each store lies within the buffer, and its loop ends.
 use borrow.Author.Needs.{needs}
-use mathlib.Core.Path.{_≡_}
 use Prim.Native.Nat.{_-_}
-use lib.ListN.{length}
-use Rattle.replay.proofs.buffers.fill.Statement.{statement}
-use Rattle.replay.proofs.buffers.fill.Tie as tie
+use Rattle.replay.proofs.buffers.filled.Statement.{statement}
+use Rattle.replay.proofs.buffers.filled.Tie as tie
 
 abbrev Inv-loop : tie.InvT-loop
-Inv-loop buffer₀ bits i₀ buffer i = length buffer ≡ length buffer₀
+Inv-loop bits buffer₀ i₀ buffer i = Unit {0}
 
 abbrev μ-loop : tie.MeasureT-loop
-μ-loop buffer₀ bits i₀ buffer i = length buffer₀ - i
+μ-loop bits buffer₀ i₀ buffer i = 256 - i
 
 loop-holds : tie.Need-loop-holds Inv-loop μ-loop
 loop-holds c = search needs
@@ -24,8 +22,8 @@ double-requires c κs = search needs
 mul-buffer : tie.Need-mul-buffer Inv-loop μ-loop
 mul-buffer c = search needs
 
-slice-write-buffer : tie.Need-slice-write-buffer Inv-loop μ-loop
-slice-write-buffer c = search needs
+array-write-buffer : tie.Need-array-write-buffer Inv-loop μ-loop
+array-write-buffer c = search needs
 
 add-i : tie.Need-add-i Inv-loop μ-loop
 add-i c = search needs
@@ -36,14 +34,11 @@ loop-less c = search needs
 loop-again : tie.Need-loop-again Inv-loop μ-loop
 loop-again c = search needs
 
-same-length : tie.Need-same-length Inv-loop μ-loop
-same-length c = search needs
-
 returns : tie.Need-returns Inv-loop μ-loop
 returns c = search needs
 
-pub fill-spec : {M : Type 1} → statement M
-fill-spec =
+pub filled-spec : {M : Type 1} → statement M
+filled-spec =
     tie.close
     (tie.spec
     Inv-loop
@@ -52,9 +47,8 @@ fill-spec =
     wrapping-add-u64-requires
     double-requires
     mul-buffer
-    slice-write-buffer
+    array-write-buffer
     add-i
     loop-less
     loop-again
-    same-length
     returns)

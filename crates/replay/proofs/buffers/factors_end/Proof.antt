@@ -1,7 +1,7 @@
 -- `factors_end`: its loop ends.
 use borrow.Author.Needs.{needs}
-use Rattle.replay.proofs.compare.factors_end.Statement.{statement}
-use Rattle.replay.proofs.compare.factors_end.Tie as tie
+use Rattle.replay.proofs.buffers.factors_end.Statement.{statement}
+use Rattle.replay.proofs.buffers.factors_end.Tie as tie
 
 abbrev Inv-loop : tie.InvT-loop
 Inv-loop at n end₀ left₀ end left = Unit {0}

@@ -1,16 +1,13 @@
--- `place_factors`: L and U keep their lengths, and its loop ends.
+-- `placed`: its loop ends.
 use borrow.Author.Needs.{needs}
-use mathlib.Core.Path.{_≡_}
-use lib.ListN.{length}
-use Rattle.replay.proofs.buffers.place_factors.Statement.{statement}
-use Rattle.replay.proofs.buffers.place_factors.Tie as tie
+use Rattle.replay.proofs.buffers.placed.Statement.{statement}
+use Rattle.replay.proofs.buffers.placed.Tie as tie
 
 abbrev Inv-loop : tie.InvT-loop
-Inv-loop «data» at n capacity l₀ u₀ row-at₀ l-start₀ u-start₀ step₀ left₀ l u row-at l-start u-start step left =
-    (length l ≡ length l₀) × (length u ≡ length u₀)
+Inv-loop «data» at n capacity before l₀ u₀ row-at₀ l-start₀ u-start₀ step₀ left₀ l u row-at l-start u-start step left = Unit {0}
 
 abbrev μ-loop : tie.MeasureT-loop
-μ-loop «data» at n capacity l₀ u₀ row-at₀ l-start₀ u-start₀ step₀ left₀ l u row-at l-start u-start step left = left
+μ-loop «data» at n capacity before l₀ u₀ row-at₀ l-start₀ u-start₀ step₀ left₀ l u row-at l-start u-start step left = left
 
 loop-holds : tie.Need-loop-holds Inv-loop μ-loop
 loop-holds c = search needs
@@ -45,17 +42,11 @@ loop-less c = search needs
 loop-again : tie.Need-loop-again Inv-loop μ-loop
 loop-again c = search needs
 
-same-length : tie.Need-same-length Inv-loop μ-loop
-same-length c = search needs
-
-same-length-2 : tie.Need-same-length-2 Inv-loop μ-loop
-same-length-2 c = search needs
-
 returns : tie.Need-returns Inv-loop μ-loop
 returns c = search needs
 
-pub place-factors-spec : {M : Type 1} → statement M
-place-factors-spec =
+pub placed-spec : {M : Type 1} → statement M
+placed-spec =
     tie.close
     (tie.spec
     Inv-loop
@@ -71,6 +62,4 @@ place-factors-spec =
     sub-left
     loop-less
     loop-again
-    same-length
-    same-length-2
     returns)
