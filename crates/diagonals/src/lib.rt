@@ -11,6 +11,7 @@ ghost use Rattle.diagonals.specs.Diagonal.{answerOf};
 use numerics::real::is_finite;
 use storage::u_index;
 
+// What the search finds: no diagonal that a solve can't divide by, or the index of the first, which is zero, or infinite or NaN.
 pub enum Diagonal {
     Sound,
     Zero(usize),

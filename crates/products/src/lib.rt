@@ -135,7 +135,7 @@ pub fn l_product_transposed_from(
     }
 }
 
-// The same with input[j].
+// output[i] takes the sum of L(i, j) * input[j], for i below n.
 pub fn l_product(n: usize, stride: usize, l: &[f64], input: &[f64], output: &mut [f64])
     requires { ⌜ (n ≤ stride) × ((stride < 2 ^ 32) × ((stride * stride ≤ length (now l)) × ((n ≤ length (now input)) × (n ≤ length (now output))))) ⌝ }
     ensures { λ _. ⌜ Written (ieee binary64) (λ i. i) n (product (ieee binary64) n (viewL (ieee binary64) stride (now (l .entry))) (entry (ieee binary64) (now (input .entry)))) (now (output .entry)) (now (output .exit)) ⌝ }
@@ -143,6 +143,7 @@ pub fn l_product(n: usize, stride: usize, l: &[f64], input: &[f64], output: &mut
     l_product_from(n, stride, l, input, 0, output);
 }
 
+// output[i] takes the sum of L(j, i) * input[j], for i below n.
 pub fn l_product_transposed(n: usize, stride: usize, l: &[f64], input: &[f64], output: &mut [f64])
     requires { ⌜ (n ≤ stride) × ((stride < 2 ^ 32) × ((stride * stride ≤ length (now l)) × ((n ≤ length (now input)) × (n ≤ length (now output))))) ⌝ }
     ensures { λ _. ⌜ Written (ieee binary64) (λ i. i) n (productTransposed (ieee binary64) n (viewL (ieee binary64) stride (now (l .entry))) (entry (ieee binary64) (now (input .entry)))) (now (output .entry)) (now (output .exit)) ⌝ }

@@ -32,7 +32,7 @@ enum-told c = search needs
 
 push-requires : tie.Need-push-requires
 push-requires c κs = let r = push-passed _ _ _ _ _ (sym (c .before .before .before .before .before .before .test-push .ensures) ∙ ap testOf (c .before .before .before .before .enum-told .given .1)) in
-    (room (ieee binary64) _ (omega (arith, r .1)) (r .0 .storage), (r .0 .y, (omega (arith, r .0 .w), (omega (arith, r .2), omega (arith, r .3)))))
+    (room (ieee binary64) _ (omega (arith, r .1)) (r .0 .storage), (omega (arith, r .0 .y), (omega (arith, r .0 .w), (omega (arith, r .2), omega (arith, r .3)))))
 
 add-t18 : tie.Need-add-t18
 add-t18 c = let r = push-passed _ _ _ _ _ (sym (c .before .before .before .before .before .before .before .before .before .before .before .before .before .before .before .test-push .ensures) ∙ ap testOf (c .before .before .before .before .before .before .before .before .before .before .before .before .before .enum-told .given .1)) in

@@ -35,7 +35,7 @@ managed-requires c κs = search needs
 
 replace-column-requires : tie.Need-replace-column-requires
 replace-column-requires c κs = let r = replacement-passed _ _ _ _ _ _ (sym (c .before .before .before .before .before .before .before .test-replacement .ensures) ∙ ap testOf (c .before .before .before .before .before .enum-told .given .1)) in
-    (room (ieee binary64) _ (r .0 .storage .dimension) (r .0 .storage), (r .0 .y, (omega (arith, r .2), (r .0 .w, r .1))))
+    (room (ieee binary64) _ (r .0 .storage .dimension) (r .0 .storage), (r .0 .y, (omega (arith, r .2), (r .0 .w, omega (arith, r .1)))))
 
 same-length : tie.Need-same-length
 same-length c = search needs

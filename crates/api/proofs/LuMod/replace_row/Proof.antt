@@ -32,7 +32,7 @@ enum-told c = search needs
 
 replace-row-requires : tie.Need-replace-row-requires
 replace-row-requires c κs = let r = replacement-passed _ _ _ _ _ _ (sym (c .before .before .before .before .before .before .before .test-replacement .ensures) ∙ ap testOf (c .before .before .before .before .before .enum-told .given .1)) in
-    (room (ieee binary64) _ (r .0 .storage .dimension) (r .0 .storage), (r .0 .y, (r .0 .z, (r .0 .w, (omega (arith, r .2), r .1)))))
+    (room (ieee binary64) _ (r .0 .storage .dimension) (r .0 .storage), (r .0 .y, (r .0 .z, (r .0 .w, (omega (arith, r .2), omega (arith, r .1))))))
 
 same-length : tie.Need-same-length
 same-length c = search needs
