@@ -1,5 +1,4 @@
 // The zero-based calls for a C host: numbers are i32, a slice is a pointer and a length. include/lumod.h is their header.
-ghost use lib.ListN.{length};
 ghost use lib.Ieee.{binary64};
 ghost use Rattle.numbers.specs.NumberForm.{ieee};
 ghost use Rattle.numbers.specs.Tolerances.{zeroBasedEpsilon, zeroBasedTiny};

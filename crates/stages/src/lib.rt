@@ -1,11 +1,10 @@
 // Stages of the updates of the factors.
 ghost use mathlib.Core.List.{[]};
-ghost use Prim.Native.Nat.{_+_, _-_, _*_, _^_, _≤_, _<_};
+ghost use Prim.Native.Nat.{_-_, _*_, _^_, _≤_, _<_};
 ghost use lib.ListN.{length};
 ghost use lib.Ieee.{binary64};
 ghost use Rattle.numbers.specs.NumberForm.{ieee};
 ghost use Rattle.numbers.specs.Tolerances.{tinyOf};
-ghost use Rattle.machine.specs.Products.{entry};
 ghost use Rattle.machine.specs.Updates.{restored, columnDropped};
 ghost use Rattle.storage.specs.Views.{viewL, viewU};
 ghost use Rattle.buffers.specs.Performed.{Room, Performed};

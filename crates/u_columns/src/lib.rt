@@ -1,6 +1,6 @@
 // Columns of the packed triangle U, in storage of a stride.
 ghost use mathlib.Core.Path.{_≡_};
-ghost use Prim.Native.Nat.{_+_, _*_, _^_, _≤_, _<_};
+ghost use Prim.Native.Nat.{_+_, _^_, _≤_, _<_};
 ghost use lib.ListN.{length};
 ghost use lib.Ieee.{binary64, mul};
 ghost use Rattle.numbers.specs.NumberForm.{ieee};

@@ -1,7 +1,7 @@
 -- Refusals 11 and 12 of the zero-based calls, in document 01's order. Below stand computed lines, one for each condition and for each that comes before another.
 use mathlib.Core.Path.{_≡_, refl}
 use mathlib.Core.Bool.{Bool, _||_, _&&_}
-use mathlib.Core.Option.{Option, none, some}
+use mathlib.Core.Option.{Option}
 use Prim.Native.Nat.{ℕ, _*_}
 use lib.Dec.{ltb, eqb}
 use lib.IntN.{ℤ, pos, negsuc}
