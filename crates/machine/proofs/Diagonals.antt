@@ -1,18 +1,14 @@
--- A solve whose length is right is refused exactly when some active diagonal is bad, and it names the first such.
+-- The search along the diagonal refuses exactly when some active diagonal is bad, and it names the first such.
 use mathlib.Core.Path.{_≡_, refl, ap, _∙_}
-use mathlib.Core.List.{List}
 use mathlib.Core.Logic.{⊎-elim}
 use mathlib.Core.Option.{Option, none, some}
 use Prim.Native.Nat.{ℕ, zero, suc, _<_}
 use native.Mathlib.Nat.{eq-or-lt-of-le, le-of-suc-le-suc}
 use native.Mathlib.Omega.{arith}
-use lib.ListN.{length}
-use borrow.Author.Tests.{eq-eqb}
 use Rattle.numbers.specs.NumberForm.{NumberForm}
-use Rattle.machine.specs.Tables.{Table, State}
+use Rattle.machine.specs.Tables.{Table}
 use Rattle.machine.specs.Solves.{badDiagonal, diagonals}
-use Rattle.machine.specs.Calls.{Answer, solve, solveTransposed, _orElse_}
-use Rattle.machine.specs.Machine.{refusal}
+use Rattle.machine.specs.Calls.{Answer, _orElse_}
 use Rattle.machine.proofs.Refusals.{or-else-none}
 
 module _ (N : NumberForm) (U : Table (N .Value)) where
@@ -56,13 +52,3 @@ module _ (N : NumberForm) (U : Table (N .Value)) where
   first-named zero i a h e f = absurd (omega arith)
   first-named (suc k) i a h e f =
       ⊎-elim (λ p. rw (← p) (λ t. e t orElse f t)) (λ l. (λ t. first-named k i a l e f t orElse badDiagonal N (U k k) k)) (eq-or-lt-of-le (le-of-suc-le-suc h))
-
--- the refusal of a solve whose right-hand side is n long
-module _ (N : NumberForm) (S : State (N .Value)) (b : List (N .Value)) (long : length b ≡ S .n) where
-  pub solve-refusal : refusal N S (solve b) ≡ diagonals N (S .U) (S .n)
-  unfolding refusal
-  solve-refusal = rw (eq-eqb (length b) (S .n) long)
-
-  pub transpose-solve-refusal : refusal N S (solveTransposed b) ≡ diagonals N (S .U) (S .n)
-  unfolding refusal
-  transpose-solve-refusal = rw (eq-eqb (length b) (S .n) long)
