@@ -1,0 +1,168 @@
+-- After every list of calls from dimension zero, L × A = U, and L sends only the zero column to zero, A being what the accepted calls spell out.
+use mathlib.Core.Path.{_≡_, refl, sym, subst, _∙_}
+use mathlib.Core.Bool.{Bool, true, false, not, _&&_, cond}
+use mathlib.Core.List.{List, [], _∷_}
+use mathlib.Core.Logic.{_≢_}
+use mathlib.Core.Option.{Option, none, some}
+use Prim.Native.Nat.{ℕ, zero, _<_}
+use native.Mathlib.Omega.{arith}
+use lib.Dec.{leb, eqb}
+use lib.ListN.{length}
+use borrow.Author.Tests.{eqb-true, eqb-false}
+use Rattle.numbers.specs.NumberForm.{NumberForm}
+use Rattle.machine.specs.Tables.{Table, State}
+use Rattle.machine.specs.Products.{product}
+use Rattle.machine.specs.Calls.{Call, push, replaceRow, replaceColumn, remove, solve, solveTransposed, Answer, refused, numberOf, _orElse_, refuseIf}
+use Rattle.machine.specs.Machine.{refusal, accepted, stepUnder, step, run}
+use Rattle.machine.proofs.Refusals.{or-else-none, index-within}
+use Rattle.exact.specs.Fractions.{Fraction, whole, Undefined, fractions}
+use Rattle.exact.specs.Matrix.{Matrix, updated, updatedBy, matrixOf}
+use Rattle.exact.specs.Factored.{AllAccepted, acceptedCalls, lastState, upperTriangle, exactRun, Factored, FactorsWithoutRounding}
+use Rattle.exact.proofs.Ring.{tested}
+use Rattle.exact.proofs.Elimination.{ExactLaws}
+use Rattle.exact.proofs.Updates.{val-product, Invariant, pushed-kept, row-replaced-kept, column-replaced-kept, removed-kept}
+use Rattle.exact.proofs.Fractions.{laws, laws-equal, laws-as-fractions}
+
+-- ---- a refused call changes nothing, over every number form
+
+module _ (N : NumberForm) (E T : N .Value) where
+  open NumberForm N using (Value)
+
+  accepted-number : (S : State Value) (c : Call Value) → numberOf (accepted N E T S c .answer) ≡ 0
+  unfolding accepted
+  accepted-number S (push row column d) = refl
+  accepted-number S (replaceRow r row) = refl
+  accepted-number S (replaceColumn k column) = refl
+  accepted-number S (remove r k) = refl
+  accepted-number S (solve b) = refl
+  accepted-number S (solveTransposed b) = refl
+
+  refused-after : (S : State Value) (c : Call Value) → numberOf (step N E T S c .answer) ≢ 0 → step N E T S c .after ≡ S
+  unfolding step stepUnder
+  refused-after S c = go (refusal N S c)
+    where
+      go : (o : Option Answer) → numberOf (stepUnder N E T o S c .answer) ≢ 0 → stepUnder N E T o S c .after ≡ S
+      go none d = absurd (d (accepted-number S c))
+      go (some a) d = refl
+
+  -- the accepted calls of a list, run alone, are all accepted, and leave what the list leaves
+  pub accepted-alone : (S : State Value) (cs : List (Call Value))
+      → let results = run N E T S cs in
+      let alone = run N E T S (acceptedCalls cs results) in
+      AllAccepted alone × (lastState S alone ≡ lastState S results)
+  unfolding run
+  accepted-alone S [] = (tt, refl)
+  accepted-alone S (c ∷ cs) =
+      let R = step N E T S c .after in
+      let kept = acceptedCalls cs (run N E T R cs) in
+      let rest = accepted-alone R cs in
+      tested (eqb (numberOf (step N E T S c .answer)) 0)
+      (λ e. rw e ((eqb-true _ 0 e, rest .0), rest .1))
+      (λ e. rw e (subst (λ (Q : State Value). AllAccepted (run N E T Q kept) × (lastState Q (run N E T Q kept) ≡ lastState R (run N E T R cs)))
+      (refused-after S c (eqb-false _ 0 e)) rest))
+
+-- ---- an accepted call keeps L × A = U
+
+-- a refusal has a number above 0
+refused-number : (b c : Bool) (j k : ℕ) (a : Answer) → 0 < j → 0 < k → (refuseIf b j orElse refuseIf c k) ≡ some a → numberOf a ≢ 0
+refused-number true c j k a p q e z = let h : j ≡ numberOf a = cc in omega arith
+refused-number false true j k a p q e z = let h : k ≡ numberOf a = cc in omega arith
+refused-number false false j k a p q e z = let h : _≡_ {A = ℕ} 0 1 = cc in omega arith
+
+module _ {N : NumberForm} (Λ : ExactLaws N) where
+  open NumberForm N using (Value, zero as 𝟘)
+
+  pub record Kept (S : State Value) (A : Matrix Value) : Type 0 where
+    pub size : A .n ≡ S .n
+    pub factorization : Invariant Λ (S .n) (S .n) (A .entries) (S .L) (S .U)
+
+  module _ (n : ℕ) (L U A : Table Value) (h : Invariant Λ n n A L U) where
+    abbrev S₀ : State Value
+    S₀ = record { n = n; L = L; U = U }
+
+    abbrev A₀ : Matrix Value
+    A₀ = record { n = n; entries = A }
+
+    accepted-kept : (c : Call Value) → refusal N S₀ c ≡ none → Kept (accepted N 𝟘 𝟘 S₀ c .after) (updated N A₀ c)
+    unfolding accepted refusal updated
+    accepted-kept (push row column d) e = record { size = refl; factorization = pushed-kept Λ n A L U row column d h }
+    accepted-kept (replaceRow r row) e =
+        record { size = refl; factorization = row-replaced-kept Λ n A L U r row (index-within n r (refused 5) (or-else-none _ _ e .0)) h }
+    accepted-kept (replaceColumn k column) e =
+        record { size = refl; factorization = column-replaced-kept Λ n A L U k column (index-within n k (refused 6) (or-else-none _ _ e .0)) h }
+    accepted-kept (remove r k) e =
+        let o = or-else-none _ _ e in
+        record { size = refl; factorization = removed-kept Λ n A L U r k (index-within n r (refused 5) (o .0)) (index-within n k (refused 6) (o .1)) h }
+    accepted-kept (solve b) e = record { size = refl; factorization = h }
+    accepted-kept (solveTransposed b) e = record { size = refl; factorization = h }
+
+    -- no update that is refused counts as accepted, and a solve changes nothing either way
+    refused-kept : (c : Call Value) (a : Answer) → refusal N S₀ c ≡ some a → numberOf a ≡ 0 → Kept S₀ (updated N A₀ c)
+    unfolding refusal updated
+    refused-kept (push row column d) a e z =
+        absurd (refused-number false (not (eqb (length row) n && eqb (length column) n)) 7 7 a (omega arith) (omega arith) e z)
+    refused-kept (replaceRow r row) a e z = absurd (refused-number (leb n r) (not (eqb (length row) n)) 5 7 a (omega arith) (omega arith) e z)
+    refused-kept (replaceColumn k column) a e z = absurd (refused-number (leb n k) (not (eqb (length column) n)) 6 7 a (omega arith) (omega arith) e z)
+    refused-kept (remove r k) a e z = absurd (refused-number (leb n r) (leb n k) 5 6 a (omega arith) (omega arith) e z)
+    refused-kept (solve b) a e z = record { size = refl; factorization = h }
+    refused-kept (solveTransposed b) a e z = record { size = refl; factorization = h }
+
+    step-kept-at : (c : Call Value) → numberOf (step N 𝟘 𝟘 S₀ c .answer) ≡ 0 → Kept (step N 𝟘 𝟘 S₀ c .after) (updated N A₀ c)
+    unfolding step stepUnder
+    step-kept-at c = go (refusal N S₀ c) refl
+      where
+        go : (o : Option Answer) → refusal N S₀ c ≡ o → numberOf (stepUnder N 𝟘 𝟘 o S₀ c .answer) ≡ 0 → Kept (stepUnder N 𝟘 𝟘 o S₀ c .after) (updated N A₀ c)
+        go none e z = accepted-kept c e
+        go (some a) e z = refused-kept c a e z
+
+  step-kept : (S : State Value) (A : Matrix Value) (c : Call Value) → numberOf (step N 𝟘 𝟘 S c .answer) ≡ 0 → Kept S A → Kept (step N 𝟘 𝟘 S c .after) (updated N A c)
+  step-kept S A c z k =
+      subst (λ (n : ℕ). Kept (step N 𝟘 𝟘 S c .after) (updated N (record { n = n; entries = A .entries }) c)) (sym (k .size))
+      (step-kept-at (S .n) (S .L) (S .U) (A .entries) (k .factorization) c z)
+
+  pub run-kept : (S : State Value) (A : Matrix Value) (cs : List (Call Value)) → AllAccepted (run N 𝟘 𝟘 S cs) → Kept S A
+      → Kept (lastState S (run N 𝟘 𝟘 S cs)) (updatedBy N A cs)
+  unfolding run updatedBy
+  run-kept S A [] z k = k
+  run-kept S A (c ∷ cs) z k = run-kept (step N 𝟘 𝟘 S c .after) (updated N A c) cs (z .1) (step-kept S A c (omega (arith, z .0)) k)
+
+-- ---- the theorem
+
+module _ (undefined : Undefined) where
+  abbrev N : NumberForm
+  N = fractions undefined
+
+  abbrev Λ : ExactLaws N
+  Λ = laws undefined
+
+  -- what holds of the values holds of the fractions
+  factored : (S : State Fraction) (A : Matrix Fraction) → Kept Λ S A → Factored undefined S A
+  factored S A k = record {
+    size = k .size;
+    factors = λ i j hi hj. laws-as-fractions undefined (product N (S .n) (S .L) (λ t. A .entries t j) i) (upperTriangle (S .U) i j)
+        (val-product Λ (S .n) (S .L) (λ t. A .entries t j) i ∙ k .factorization .product i j hi hj ∙ below (leb i j) (S .U i j));
+    regular = λ x z j hj. laws-as-fractions undefined (x j) (whole 0) (k .factorization .regular (λ t. Λ .val (x t))
+        (λ i hi. sym (val-product Λ (S .n) (S .L) x i) ∙ laws-equal undefined (product N (S .n) (S .L) x i) (whole 0) (z i hi) ∙ Λ .val-zero) j hj ∙ sym (Λ .val-zero));
+  }
+    where
+      below : (b : Bool) (u : Fraction) → cond b (Λ .val u) (Λ .ring .𝟎) ≡ Λ .val (cond b u (whole 0))
+      below true u = refl
+      below false u = sym (Λ .val-zero)
+
+  accepted-list : (S : State Fraction) (calls : List (Call Fraction)) → S .n ≡ 0 → AllAccepted (exactRun undefined S calls)
+      → Factored undefined (lastState S (exactRun undefined S calls)) (matrixOf N calls)
+  unfolding matrixOf
+  accepted-list S calls e a = factored (lastState S (exactRun undefined S calls)) (matrixOf N calls) (run-kept Λ S _ calls a (record {
+    size = sym e;
+    factorization = record { product = λ i k hi hk. absurd (omega arith); regular = λ x z j hj. absurd (omega arith) };
+  }))
+
+pub factors-without-rounding : FactorsWithoutRounding
+factors-without-rounding undefined S calls from-zero =
+    let e : S .n ≡ 0 = omega arith in
+    let kept = acceptedCalls calls (exactRun undefined S calls) in
+    let alone = accepted-alone (fractions undefined) (whole 0) (whole 0) S calls in
+    record {
+      accepted-list = accepted-list undefined S calls e;
+      every-list = subst (λ (R : State Fraction). Factored undefined R (matrixOf (fractions undefined) kept)) (alone .1) (accepted-list undefined S kept e (alone .0));
+    }

@@ -1,0 +1,131 @@
+-- Worked examples, computed: the bench table's P over fractions, what its updates make of it, a singular A, remove's moves, and a list with refused calls. Each
+-- holds whatever stands for undefined values.
+use mathlib.Core.Path.{_≡_, refl}
+use mathlib.Core.List.{List, [], _∷_, _++_}
+use mathlib.Core.Bool.{true, false}
+use mathlib.Core.Option.{some}
+use Prim.Native.Nat.{ℕ}
+use Rattle.numbers.specs.NumberForm.{NumberForm}
+use Rattle.numbers.specs.PairStep.{pairStep, first, second}
+use Rattle.machine.specs.Tables.{State}
+use Rattle.machine.specs.Products.{sum, product}
+use Rattle.machine.specs.Forward.{copyDenseToRow, transformRows, forwardActs, forwardTransform, forwardRow, forwardRows, forward}
+use Rattle.machine.specs.Backward.{copyRowToDense, negligible, trim, clearDense, backwardSkips, backwardTransform, backwardRow, backwardRows, backward}
+use Rattle.machine.specs.Updates.{putColumn, putSelected, columnCopied, bordered, columnCleared, unitRow, restoredFrom, restored, pushed, columnReplaced, rowReplacedFrom, rowReplaced, columnDropped, removed}
+use Rattle.machine.specs.Calls.{Call, push, replaceRow, replaceColumn, remove, Answer, done, moved, refused, Result}
+use Rattle.machine.specs.Machine.{refusal, accepted, stepUnder, step, run}
+use Rattle.exact.specs.Fractions.{Fraction, _≈_, negative, whole, ratio, Undefined, fractions}
+use Rattle.exact.specs.Matrix.{updated, updatedBy, matrixOf}
+use Rattle.exact.specs.Factored.{acceptedCalls, lastState, exactRun}
+
+-- two lists whose entries are equal as fractions
+abbrev Equal : List Fraction → List Fraction → Type 0
+Equal [] [] = Unit {0}
+Equal [] (y ∷ ys) = ⊥
+Equal (x ∷ xs) [] = ⊥
+Equal (x ∷ xs) (y ∷ ys) = (x ≈ y) × Equal xs ys
+
+abbrev answers : List (Result Fraction) → List Answer
+answers [] = []
+answers (r ∷ rs) = r .answer ∷ answers rs
+
+-- ---- lists of calls
+
+abbrev pub P : List (Call Fraction)
+P = push [] [] (whole 2) ∷ push (whole 4 ∷ []) (whole 6 ∷ []) (whole 1) ∷ []
+
+abbrev pub singular : List (Call Fraction)
+singular = push [] [] (whole 1) ∷ push (whole 2 ∷ []) (whole 3 ∷ []) (whole 6) ∷ []
+
+-- P with a third row and column, and then row 0 and column 1 removed: row 2 moves to 0, and column 2 to 1
+abbrev pub moves : List (Call Fraction)
+moves = P ++ push (whole 3 ∷ whole 8 ∷ []) (whole 5 ∷ negative (whole 7) ∷ []) (whole 9) ∷ remove 0 1 ∷ []
+
+-- P with calls among its own that are refused: a row out of bounds, two lengths that don't match, and a column out of bounds
+abbrev pub interrupted : List (Call Fraction)
+interrupted =
+    push [] [] (whole 2)
+    ∷ replaceRow 1 (whole 9 ∷ [])
+    ∷ push [] [] (whole 9)
+    ∷ push (whole 4 ∷ []) (whole 6 ∷ []) (whole 1)
+    ∷ replaceColumn 0 (whole 9 ∷ [])
+    ∷ remove 0 2
+    ∷ []
+
+-- ---- what they leave
+
+module _ (undefined : Undefined) where
+  -- dimension zero
+  abbrev pub empty : State Fraction
+  empty = record { n = 0; L = λ i j. undefined .absent; U = λ i j. undefined .absent }
+
+  -- Who unfolds `after` unfolds the whole machine.
+  after : List (Call Fraction) → State Fraction
+  unfolding run step stepUnder accepted refusal pushed bordered columnReplaced putColumn restored restoredFrom putSelected rowReplaced rowReplacedFrom columnCleared unitRow removed
+      columnDropped columnCopied forward copyDenseToRow forwardRows forwardRow forwardActs forwardTransform transformRows
+      backward copyRowToDense negligible trim backwardRows backwardRow clearDense backwardSkips backwardTransform product sum pairStep first second
+  after calls = lastState empty (exactRun undefined empty calls)
+
+  -- the matrix that the calls spell out, row by row, at dimension 2
+  spelled : List (Call Fraction) → List Fraction
+  unfolding matrixOf updatedBy updated
+  spelled calls = let A = matrixOf (fractions undefined) calls in A .entries 0 0 ∷ A .entries 0 1 ∷ A .entries 1 0 ∷ A .entries 1 1 ∷ []
+
+  -- what calls that end at dimension 2 leave: L and U, row by row, and A
+  pub record Leaves (calls : List (Call Fraction)) (l u a : List Fraction) : Type 0 where
+    dimension : after calls .n ≡ 2
+    L : let S = after calls in Equal (S .L 0 0 ∷ S .L 0 1 ∷ S .L 1 0 ∷ S .L 1 1 ∷ []) l
+    U : let S = after calls in Equal (S .U 0 0 ∷ S .U 0 1 ∷ S .U 1 1 ∷ []) u
+    A : Equal (spelled calls) a
+
+  open NumberForm (fractions undefined) using (add, sub, mul, div, abs, le, lt)
+
+  pub record ExactTable : Type 0 where
+    sum : add (ratio 1 2) (ratio 1 3) ≈ ratio 5 6
+    difference : sub (ratio 1 2) (ratio 2 3) ≈ negative (ratio 1 6)
+    multiple : mul (negative (ratio 1 2)) (ratio 2 3) ≈ negative (ratio 1 3)
+    division : div (negative (ratio 1 2)) (negative (ratio 2 3)) ≈ ratio 3 4
+    magnitude : abs (negative (ratio 1 2)) ≈ ratio 1 2
+    order : le (ratio 1 3) (ratio 1 2) ∷ le (ratio 1 2) (ratio 1 3) ∷ le (negative (ratio 1 2)) (negative (ratio 1 3)) ∷ le (negative (ratio 1 3)) (negative (ratio 1 2)) ∷ []
+        ≡ true ∷ false ∷ true ∷ false ∷ []
+    strict-order : lt (ratio 1 3) (ratio 1 2) ∷ lt (ratio 2 4) (ratio 1 2) ∷ lt (negative (whole 1)) (whole 1) ∷ lt (whole 1) (negative (whole 1)) ∷ []
+        ≡ true ∷ false ∷ true ∷ false ∷ []
+    -- the bench table's rows
+    P-leaves : Leaves P
+        (whole 0 ∷ whole 1 ∷ whole 1 ∷ negative (ratio 1 2) ∷ []) (whole 4 ∷ whole 1 ∷ ratio 11 2 ∷ []) (whole 2 ∷ whole 6 ∷ whole 4 ∷ whole 1 ∷ [])
+    column-leaves : Leaves (P ++ replaceColumn 0 (whole 1 ∷ whole 8 ∷ []) ∷ [])
+        (whole 0 ∷ whole 1 ∷ whole 1 ∷ negative (ratio 1 8) ∷ []) (whole 8 ∷ whole 1 ∷ ratio 47 8 ∷ []) (whole 1 ∷ whole 6 ∷ whole 8 ∷ whole 1 ∷ [])
+    row-leaves : Leaves (P ++ replaceRow 0 (whole 1 ∷ whole 1 ∷ []) ∷ [])
+        (whole 0 ∷ whole 1 ∷ whole 1 ∷ negative (ratio 1 4) ∷ []) (whole 4 ∷ whole 1 ∷ ratio 3 4 ∷ []) (whole 1 ∷ whole 1 ∷ whole 4 ∷ whole 1 ∷ [])
+    remove-leaves : Equal (after (P ++ remove 1 1 ∷ []) .L 0 0 ∷ after (P ++ remove 1 1 ∷ []) .U 0 0 ∷ []) (whole 1 ∷ whole 2 ∷ [])
+    -- a singular A: U's last diagonal entry is 0
+    singular-leaves : Leaves singular
+        (whole 0 ∷ whole 1 ∷ whole 1 ∷ negative (ratio 1 2) ∷ []) (whole 2 ∷ whole 6 ∷ whole 0 ∷ []) (whole 1 ∷ whole 3 ∷ whole 2 ∷ whole 6 ∷ [])
+    moves-leave : Leaves moves
+        (whole 0 ∷ whole 1 ∷ whole 1 ∷ negative (ratio 3 4) ∷ []) (whole 4 ∷ negative (whole 7) ∷ ratio 57 4 ∷ []) (whole 3 ∷ whole 9 ∷ whole 4 ∷ negative (whole 7) ∷ [])
+    -- A's moves are those that remove tells of
+    moves-told : answers (exactRun undefined empty moves) ≡ done ∷ done ∷ done ∷ moved (some 2) (some 2) ∷ []
+    -- the calls that are not refused are P's
+    interrupted-told : answers (exactRun undefined empty interrupted) ≡ done ∷ refused 5 ∷ refused 7 ∷ done ∷ refused 7 ∷ refused 6 ∷ []
+    refused-left-out : acceptedCalls interrupted (exactRun undefined empty interrupted) ≡ P
+
+  pub exactTable : ExactTable
+  unfolding after spelled
+  exactTable = record {
+    sum = refl;
+    difference = refl;
+    multiple = refl;
+    division = refl;
+    magnitude = refl;
+    order = refl;
+    strict-order = refl;
+    P-leaves = search;
+    column-leaves = search;
+    row-leaves = search;
+    remove-leaves = search;
+    singular-leaves = search;
+    moves-leave = search;
+    moves-told = refl;
+    interrupted-told = refl;
+    refused-left-out = refl;
+  }
