@@ -17,7 +17,7 @@ use Rattle.machine.specs.Machine.{refusal, accepted, stepUnder, step, run}
 use Rattle.machine.proofs.Refusals.{or-else-none, index-within}
 use Rattle.exact.specs.Fractions.{Fraction, whole, Undefined, fractions}
 use Rattle.exact.specs.Matrix.{Matrix, updated, updatedBy, matrixOf}
-use Rattle.exact.specs.Factored.{AllAccepted, acceptedCalls, lastState, upperTriangle, exactRun, Factored, FactorsWithoutRounding}
+use Rattle.exact.specs.Factored.{AllAccepted, acceptedCalls, lastState, upperTriangle, exactRun, factorTimes, Factored, FactorsWithoutRounding}
 use Rattle.exact.proofs.Ring.{tested}
 use Rattle.exact.proofs.Elimination.{ExactLaws}
 use Rattle.exact.proofs.Updates.{val-product, Invariant, pushed-kept, row-replaced-kept, column-replaced-kept, removed-kept}
@@ -139,10 +139,10 @@ module _ (undefined : Undefined) where
   factored : (S : State Fraction) (A : Matrix Fraction) → Kept Λ S A → Factored undefined S A
   factored S A k = record {
     size = k .size;
-    factors = λ i j hi hj. laws-as-fractions undefined (product N (S .n) (S .L) (λ t. A .entries t j) i) (upperTriangle (S .U) i j)
+    factors = λ i j hi hj. laws-as-fractions undefined (factorTimes undefined S A i j) (upperTriangle (S .U) i j)
         (val-product Λ (S .n) (S .L) (λ t. A .entries t j) i ∙ k .factorization .product i j hi hj ∙ below (leb i j) (S .U i j));
     regular = λ x z j hj. laws-as-fractions undefined (x j) (whole 0) (k .factorization .regular (λ t. Λ .val (x t))
-        (λ i hi. sym (val-product Λ (S .n) (S .L) x i) ∙ laws-equal undefined (product N (S .n) (S .L) x i) (whole 0) (z i hi) ∙ Λ .val-zero) j hj ∙ sym (Λ .val-zero));
+        (λ i hi. sym (val-product Λ (S .n) (S .L) x i) ∙ laws-equal undefined (product N (S .n) (S .L) x i) (whole 0) (z i (omega arith)) ∙ Λ .val-zero) j hj ∙ sym (Λ .val-zero));
   }
     where
       below : (b : Bool) (u : Fraction) → cond b (Λ .val u) (Λ .ring .𝟎) ≡ Λ .val (cond b u (whole 0))

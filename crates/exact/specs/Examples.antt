@@ -1,11 +1,8 @@
--- Worked examples, computed: the bench table's P over fractions, what its updates make of it, a singular A, remove's moves, and a list with refused calls. Each
--- holds whatever stands for undefined values.
+-- Worked examples, computed: the bench table's P over fractions, what its updates make of it, small numbers, a singular A, remove's moves, and a list with
+-- refused calls. Each holds whatever stands for undefined values.
 use mathlib.Core.Path.{_≡_, refl}
 use mathlib.Core.List.{List, [], _∷_, _++_}
-use mathlib.Core.Bool.{true, false}
 use mathlib.Core.Option.{some}
-use Prim.Native.Nat.{ℕ}
-use Rattle.numbers.specs.NumberForm.{NumberForm}
 use Rattle.numbers.specs.PairStep.{pairStep, first, second}
 use Rattle.machine.specs.Tables.{State}
 use Rattle.machine.specs.Products.{sum, product}
@@ -15,15 +12,25 @@ use Rattle.machine.specs.Updates.{putColumn, putSelected, columnCopied, bordere
 use Rattle.machine.specs.Calls.{Call, push, replaceRow, replaceColumn, remove, Answer, done, moved, refused, Result}
 use Rattle.machine.specs.Machine.{refusal, accepted, stepUnder, step, run}
 use Rattle.exact.specs.Fractions.{Fraction, _≈_, negative, whole, ratio, Undefined, fractions}
-use Rattle.exact.specs.Matrix.{updated, updatedBy, matrixOf}
-use Rattle.exact.specs.Factored.{acceptedCalls, lastState, exactRun}
+use Rattle.exact.specs.Matrix.{Matrix, rowsOf, updated, updatedBy, matrixOf}
+use Rattle.exact.specs.Factored.{acceptedCalls, lastState, upperTriangle, exactRun, factorTimes}
 
--- two lists whose entries are equal as fractions
+-- entries that are equal as fractions
 abbrev Equal : List Fraction → List Fraction → Type 0
 Equal [] [] = Unit {0}
 Equal [] (y ∷ ys) = ⊥
 Equal (x ∷ xs) [] = ⊥
 Equal (x ∷ xs) (y ∷ ys) = (x ≈ y) × Equal xs ys
+
+abbrev EqualRows : List (List Fraction) → List (List Fraction) → Type 0
+EqualRows [] [] = Unit {0}
+EqualRows [] (y ∷ ys) = ⊥
+EqualRows (x ∷ xs) [] = ⊥
+EqualRows (x ∷ xs) (y ∷ ys) = Equal x y × EqualRows xs ys
+
+-- the rows a, b; c, d
+abbrev rows : Fraction → Fraction → Fraction → Fraction → List (List Fraction)
+rows a b c d = (a ∷ b ∷ []) ∷ (c ∷ d ∷ []) ∷ []
 
 abbrev answers : List (Result Fraction) → List Answer
 answers [] = []
@@ -33,6 +40,10 @@ answers (r ∷ rs) = r .answer ∷ answers rs
 
 abbrev pub P : List (Call Fraction)
 P = push [] [] (whole 2) ∷ push (whole 4 ∷ []) (whole 6 ∷ []) (whole 1) ∷ []
+
+-- numbers of at most 1, which a larger E or T would pass over
+abbrev pub small : List (Call Fraction)
+small = push [] [] (ratio 1 2) ∷ push (ratio 1 4 ∷ []) (whole 3 ∷ []) (whole 1) ∷ []
 
 abbrev pub singular : List (Call Fraction)
 singular = push [] [] (whole 1) ∷ push (whole 2 ∷ []) (whole 3 ∷ []) (whole 6) ∷ []
@@ -66,43 +77,34 @@ module _ (undefined : Undefined) where
       backward copyRowToDense negligible trim backwardRows backwardRow clearDense backwardSkips backwardTransform product sum pairStep first second
   after calls = lastState empty (exactRun undefined empty calls)
 
-  -- the matrix that the calls spell out, row by row, at dimension 2
-  spelled : List (Call Fraction) → List Fraction
+  spelled : List (Call Fraction) → Matrix Fraction
   unfolding matrixOf updatedBy updated
-  spelled calls = let A = matrixOf (fractions undefined) calls in A .entries 0 0 ∷ A .entries 0 1 ∷ A .entries 1 0 ∷ A .entries 1 1 ∷ []
+  spelled calls = matrixOf (fractions undefined) calls
 
-  -- what calls that end at dimension 2 leave: L and U, row by row, and A
-  pub record Leaves (calls : List (Call Fraction)) (l u a : List Fraction) : Type 0 where
-    dimension : after calls .n ≡ 2
-    L : let S = after calls in Equal (S .L 0 0 ∷ S .L 0 1 ∷ S .L 1 0 ∷ S .L 1 1 ∷ []) l
-    U : let S = after calls in Equal (S .U 0 0 ∷ S .U 0 1 ∷ S .U 1 1 ∷ []) u
-    A : Equal (spelled calls) a
-
-  open NumberForm (fractions undefined) using (add, sub, mul, div, abs, le, lt)
+  -- what calls leave: L, U with zeros below its diagonal, which is also L × A, and A
+  pub record Leaves (calls : List (Call Fraction)) (l u a : List (List Fraction)) : Type 0 where
+    L : EqualRows (rowsOf (after calls .n) (after calls .L)) l
+    U : EqualRows (rowsOf (after calls .n) (upperTriangle (after calls .U))) u
+    A : EqualRows (rowsOf (spelled calls .n) (spelled calls .entries)) a
+    LA : EqualRows (rowsOf (after calls .n) (factorTimes undefined (after calls) (spelled calls))) u
 
   pub record ExactTable : Type 0 where
-    sum : add (ratio 1 2) (ratio 1 3) ≈ ratio 5 6
-    difference : sub (ratio 1 2) (ratio 2 3) ≈ negative (ratio 1 6)
-    multiple : mul (negative (ratio 1 2)) (ratio 2 3) ≈ negative (ratio 1 3)
-    division : div (negative (ratio 1 2)) (negative (ratio 2 3)) ≈ ratio 3 4
-    magnitude : abs (negative (ratio 1 2)) ≈ ratio 1 2
-    order : le (ratio 1 3) (ratio 1 2) ∷ le (ratio 1 2) (ratio 1 3) ∷ le (negative (ratio 1 2)) (negative (ratio 1 3)) ∷ le (negative (ratio 1 3)) (negative (ratio 1 2)) ∷ []
-        ≡ true ∷ false ∷ true ∷ false ∷ []
-    strict-order : lt (ratio 1 3) (ratio 1 2) ∷ lt (ratio 2 4) (ratio 1 2) ∷ lt (negative (whole 1)) (whole 1) ∷ lt (whole 1) (negative (whole 1)) ∷ []
-        ≡ true ∷ false ∷ true ∷ false ∷ []
     -- the bench table's rows
     P-leaves : Leaves P
-        (whole 0 ∷ whole 1 ∷ whole 1 ∷ negative (ratio 1 2) ∷ []) (whole 4 ∷ whole 1 ∷ ratio 11 2 ∷ []) (whole 2 ∷ whole 6 ∷ whole 4 ∷ whole 1 ∷ [])
+        (rows (whole 0) (whole 1) (whole 1) (negative (ratio 1 2))) (rows (whole 4) (whole 1) (whole 0) (ratio 11 2)) (rows (whole 2) (whole 6) (whole 4) (whole 1))
     column-leaves : Leaves (P ++ replaceColumn 0 (whole 1 ∷ whole 8 ∷ []) ∷ [])
-        (whole 0 ∷ whole 1 ∷ whole 1 ∷ negative (ratio 1 8) ∷ []) (whole 8 ∷ whole 1 ∷ ratio 47 8 ∷ []) (whole 1 ∷ whole 6 ∷ whole 8 ∷ whole 1 ∷ [])
+        (rows (whole 0) (whole 1) (whole 1) (negative (ratio 1 8))) (rows (whole 8) (whole 1) (whole 0) (ratio 47 8)) (rows (whole 1) (whole 6) (whole 8) (whole 1))
     row-leaves : Leaves (P ++ replaceRow 0 (whole 1 ∷ whole 1 ∷ []) ∷ [])
-        (whole 0 ∷ whole 1 ∷ whole 1 ∷ negative (ratio 1 4) ∷ []) (whole 4 ∷ whole 1 ∷ ratio 3 4 ∷ []) (whole 1 ∷ whole 1 ∷ whole 4 ∷ whole 1 ∷ [])
-    remove-leaves : Equal (after (P ++ remove 1 1 ∷ []) .L 0 0 ∷ after (P ++ remove 1 1 ∷ []) .U 0 0 ∷ []) (whole 1 ∷ whole 2 ∷ [])
+        (rows (whole 0) (whole 1) (whole 1) (negative (ratio 1 4))) (rows (whole 4) (whole 1) (whole 0) (ratio 3 4)) (rows (whole 1) (whole 1) (whole 4) (whole 1))
+    remove-leaves : Leaves (P ++ remove 1 1 ∷ []) ((whole 1 ∷ []) ∷ []) ((whole 2 ∷ []) ∷ []) ((whole 2 ∷ []) ∷ [])
+    small-leaves : Leaves small
+        (rows (whole 1) (whole 0) (negative (ratio 1 2)) (whole 1)) (rows (ratio 1 2) (whole 3) (whole 0) (negative (ratio 1 2))) (rows (ratio 1 2) (whole 3) (ratio 1 4) (whole 1))
     -- a singular A: U's last diagonal entry is 0
     singular-leaves : Leaves singular
-        (whole 0 ∷ whole 1 ∷ whole 1 ∷ negative (ratio 1 2) ∷ []) (whole 2 ∷ whole 6 ∷ whole 0 ∷ []) (whole 1 ∷ whole 3 ∷ whole 2 ∷ whole 6 ∷ [])
+        (rows (whole 0) (whole 1) (whole 1) (negative (ratio 1 2))) (rows (whole 2) (whole 6) (whole 0) (whole 0)) (rows (whole 1) (whole 3) (whole 2) (whole 6))
     moves-leave : Leaves moves
-        (whole 0 ∷ whole 1 ∷ whole 1 ∷ negative (ratio 3 4) ∷ []) (whole 4 ∷ negative (whole 7) ∷ ratio 57 4 ∷ []) (whole 3 ∷ whole 9 ∷ whole 4 ∷ negative (whole 7) ∷ [])
+        (rows (whole 0) (whole 1) (whole 1) (negative (ratio 3 4))) (rows (whole 4) (negative (whole 7)) (whole 0) (ratio 57 4))
+        (rows (whole 3) (whole 9) (whole 4) (negative (whole 7)))
     -- A's moves are those that remove tells of
     moves-told : answers (exactRun undefined empty moves) ≡ done ∷ done ∷ done ∷ moved (some 2) (some 2) ∷ []
     -- the calls that are not refused are P's
@@ -112,17 +114,11 @@ module _ (undefined : Undefined) where
   pub exactTable : ExactTable
   unfolding after spelled
   exactTable = record {
-    sum = refl;
-    difference = refl;
-    multiple = refl;
-    division = refl;
-    magnitude = refl;
-    order = refl;
-    strict-order = refl;
     P-leaves = search;
     column-leaves = search;
     row-leaves = search;
     remove-leaves = search;
+    small-leaves = search;
     singular-leaves = search;
     moves-leave = search;
     moves-told = refl;

@@ -1,6 +1,8 @@
--- Exact fractions as a number form: a whole numerator over a positive whole denominator. Fractions are not reduced, so two of them are compared by _≈_.
-use mathlib.Core.Path.{_≡_}
+-- Exact fractions as a number form: a whole numerator over a positive whole denominator. Fractions are not reduced, so two of them are compared by _≈_. Below
+-- stand computed lines for the operations.
+use mathlib.Core.Path.{_≡_, refl}
 use mathlib.Core.Bool.{Bool, true, false, not}
+use mathlib.Core.List.{[], _∷_}
 use Prim.Native.Nat.{ℕ, zero, suc, _*_, _<_}
 use native.Mathlib.Nat.{zero-lt-suc, mul-pos}
 use lib.Dec.{leb, eqb}
@@ -95,3 +97,37 @@ fractions undefined = record {
 -- a / b, for worked examples
 abbrev pub ratio : ℕ → ℕ → Fraction
 ratio a b = quotient (whole 0) (pos a) (pos b)
+
+-- ---- the operations, computed
+
+module _ (undefined : Undefined) where
+  open NumberForm (fractions undefined) using (add, sub, mul, div, abs, le, lt, isZero)
+
+  pub record FractionTable : Type 0 where
+    not-reduced : ratio 2 4 ≈ ratio 1 2
+    sum : add (ratio 1 2) (ratio 1 3) ≈ ratio 5 6
+    difference : sub (ratio 1 2) (ratio 2 3) ≈ negative (ratio 1 6)
+    multiple : mul (negative (ratio 1 2)) (ratio 2 3) ≈ negative (ratio 1 3)
+    division : div (negative (ratio 1 2)) (negative (ratio 2 3)) ≈ ratio 3 4
+    division-by-zero : div (whole 3) (whole 0) ≡ undefined .over-zero (whole 3) (whole 0)
+    magnitudes : (abs (negative (ratio 1 2)) ≈ ratio 1 2) × (abs (ratio 1 2) ≈ ratio 1 2)
+    order : le (ratio 1 3) (ratio 1 2) ∷ le (ratio 1 2) (ratio 1 3) ∷ le (ratio 2 4) (ratio 1 2) ∷ [] ≡ true ∷ false ∷ true ∷ []
+    negative-order : le (negative (ratio 1 2)) (negative (ratio 1 3)) ∷ le (negative (ratio 1 3)) (negative (ratio 1 2)) ∷ [] ≡ true ∷ false ∷ []
+    strict-order : lt (ratio 1 3) (ratio 1 2) ∷ lt (ratio 2 4) (ratio 1 2) ∷ lt (negative (whole 1)) (whole 1) ∷ lt (whole 1) (negative (whole 1)) ∷ []
+        ≡ true ∷ false ∷ true ∷ false ∷ []
+    zeros : isZero (whole 0) ∷ isZero (whole 1) ∷ isZero (negative (whole 1)) ∷ [] ≡ true ∷ false ∷ false ∷ []
+
+  pub fractionTable : FractionTable
+  fractionTable = record {
+    not-reduced = refl;
+    sum = refl;
+    difference = refl;
+    multiple = refl;
+    division = refl;
+    division-by-zero = refl;
+    magnitudes = (refl, refl);
+    order = refl;
+    negative-order = refl;
+    strict-order = refl;
+    zeros = refl;
+  }
