@@ -4,7 +4,7 @@ use mathlib.Core.Bool.{Bool, true, false, not, _&&_, cond}
 use mathlib.Core.List.{List, [], _∷_}
 use mathlib.Core.Logic.{_≢_}
 use mathlib.Core.Option.{Option, none, some}
-use Prim.Native.Nat.{ℕ, zero, _<_}
+use Prim.Native.Nat.{ℕ, _<_}
 use native.Mathlib.Omega.{arith}
 use lib.Dec.{leb, eqb}
 use lib.ListN.{length}
@@ -28,21 +28,21 @@ use Rattle.exact.proofs.Fractions.{laws, laws-equal, laws-as-fractions}
 module _ (N : NumberForm) (E T : N .Value) where
   open NumberForm N using (Value)
 
-  accepted-number : (S : State Value) (c : Call Value) → numberOf (accepted N E T S c .answer) ≡ 0
+  accepted-is-0 : (S : State Value) (c : Call Value) → numberOf (accepted N E T S c .answer) ≡ 0
   unfolding accepted
-  accepted-number S (push row column d) = refl
-  accepted-number S (replaceRow r row) = refl
-  accepted-number S (replaceColumn k column) = refl
-  accepted-number S (remove r k) = refl
-  accepted-number S (solve b) = refl
-  accepted-number S (solveTransposed b) = refl
+  accepted-is-0 S (push row column d) = refl
+  accepted-is-0 S (replaceRow r row) = refl
+  accepted-is-0 S (replaceColumn k column) = refl
+  accepted-is-0 S (remove r k) = refl
+  accepted-is-0 S (solve b) = refl
+  accepted-is-0 S (solveTransposed b) = refl
 
   refused-after : (S : State Value) (c : Call Value) → numberOf (step N E T S c .answer) ≢ 0 → step N E T S c .after ≡ S
   unfolding step stepUnder
   refused-after S c = go (refusal N S c)
     where
       go : (o : Option Answer) → numberOf (stepUnder N E T o S c .answer) ≢ 0 → stepUnder N E T o S c .after ≡ S
-      go none d = absurd (d (accepted-number S c))
+      go none d = absurd (d (accepted-is-0 S c))
       go (some a) d = refl
 
   -- the accepted calls of a list, run alone, are all accepted, and leave what the list leaves
@@ -76,49 +76,49 @@ module _ {N : NumberForm} (Λ : ExactLaws N) where
     pub size : A .n ≡ S .n
     pub factorization : Invariant Λ (S .n) (S .n) (A .entries) (S .L) (S .U)
 
-  module _ (n : ℕ) (L U A : Table Value) (h : Invariant Λ n n A L U) where
-    abbrev S₀ : State Value
-    S₀ = record { n = n; L = L; U = U }
-
+  module _ (S : State Value) (A : Table Value) (h : Invariant Λ (S .n) (S .n) A (S .L) (S .U)) where
     abbrev A₀ : Matrix Value
-    A₀ = record { n = n; entries = A }
+    A₀ = record { n = S .n; entries = A }
 
-    accepted-kept : (c : Call Value) → refusal N S₀ c ≡ none → Kept (accepted N 𝟘 𝟘 S₀ c .after) (updated N A₀ c)
+    accepted-kept : (c : Call Value) → refusal N S c ≡ none → Kept (accepted N 𝟘 𝟘 S c .after) (updated N A₀ c)
     unfolding accepted refusal updated
-    accepted-kept (push row column d) e = record { size = refl; factorization = pushed-kept Λ n A L U row column d h }
+    accepted-kept (push row column d) e = record { size = refl; factorization = pushed-kept Λ (S .n) A (S .L) (S .U) row column d h }
     accepted-kept (replaceRow r row) e =
-        record { size = refl; factorization = row-replaced-kept Λ n A L U r row (index-within n r (refused 5) (or-else-none _ _ e .0)) h }
+        record { size = refl; factorization = row-replaced-kept Λ (S .n) A (S .L) (S .U) r row (index-within (S .n) r (refused 5) (or-else-none _ _ e .0)) h }
     accepted-kept (replaceColumn k column) e =
-        record { size = refl; factorization = column-replaced-kept Λ n A L U k column (index-within n k (refused 6) (or-else-none _ _ e .0)) h }
+        record { size = refl; factorization = column-replaced-kept Λ (S .n) A (S .L) (S .U) k column (index-within (S .n) k (refused 6) (or-else-none _ _ e .0)) h }
     accepted-kept (remove r k) e =
         let o = or-else-none _ _ e in
-        record { size = refl; factorization = removed-kept Λ n A L U r k (index-within n r (refused 5) (o .0)) (index-within n k (refused 6) (o .1)) h }
+        let hr = index-within (S .n) r (refused 5) (o .0) in
+        let hk = index-within (S .n) k (refused 6) (o .1) in
+        record { size = refl; factorization = removed-kept Λ (S .n) A (S .L) (S .U) r k hr hk h }
     accepted-kept (solve b) e = record { size = refl; factorization = h }
     accepted-kept (solveTransposed b) e = record { size = refl; factorization = h }
 
     -- no update that is refused counts as accepted, and a solve changes nothing either way
-    refused-kept : (c : Call Value) (a : Answer) → refusal N S₀ c ≡ some a → numberOf a ≡ 0 → Kept S₀ (updated N A₀ c)
+    refused-kept : (c : Call Value) (a : Answer) → refusal N S c ≡ some a → numberOf a ≡ 0 → Kept S (updated N A₀ c)
     unfolding refusal updated
     refused-kept (push row column d) a e z =
-        absurd (refused-number false (not (eqb (length row) n && eqb (length column) n)) 7 7 a (omega arith) (omega arith) e z)
-    refused-kept (replaceRow r row) a e z = absurd (refused-number (leb n r) (not (eqb (length row) n)) 5 7 a (omega arith) (omega arith) e z)
-    refused-kept (replaceColumn k column) a e z = absurd (refused-number (leb n k) (not (eqb (length column) n)) 6 7 a (omega arith) (omega arith) e z)
-    refused-kept (remove r k) a e z = absurd (refused-number (leb n r) (leb n k) 5 6 a (omega arith) (omega arith) e z)
+        absurd (refused-number false (not (eqb (length row) (S .n) && eqb (length column) (S .n))) 7 7 a (omega arith) (omega arith) e z)
+    refused-kept (replaceRow r row) a e z = absurd (refused-number (leb (S .n) r) (not (eqb (length row) (S .n))) 5 7 a (omega arith) (omega arith) e z)
+    refused-kept (replaceColumn k column) a e z = absurd (refused-number (leb (S .n) k) (not (eqb (length column) (S .n))) 6 7 a (omega arith) (omega arith) e z)
+    refused-kept (remove r k) a e z = absurd (refused-number (leb (S .n) r) (leb (S .n) k) 5 6 a (omega arith) (omega arith) e z)
     refused-kept (solve b) a e z = record { size = refl; factorization = h }
     refused-kept (solveTransposed b) a e z = record { size = refl; factorization = h }
 
-    step-kept-at : (c : Call Value) → numberOf (step N 𝟘 𝟘 S₀ c .answer) ≡ 0 → Kept (step N 𝟘 𝟘 S₀ c .after) (updated N A₀ c)
+    step-kept-at : (c : Call Value) → numberOf (step N 𝟘 𝟘 S c .answer) ≡ 0 → Kept (step N 𝟘 𝟘 S c .after) (updated N A₀ c)
     unfolding step stepUnder
-    step-kept-at c = go (refusal N S₀ c) refl
+    step-kept-at c = go (refusal N S c) refl
       where
-        go : (o : Option Answer) → refusal N S₀ c ≡ o → numberOf (stepUnder N 𝟘 𝟘 o S₀ c .answer) ≡ 0 → Kept (stepUnder N 𝟘 𝟘 o S₀ c .after) (updated N A₀ c)
+        go : (o : Option Answer) → refusal N S c ≡ o → numberOf (stepUnder N 𝟘 𝟘 o S c .answer) ≡ 0 → Kept (stepUnder N 𝟘 𝟘 o S c .after) (updated N A₀ c)
         go none e z = accepted-kept c e
         go (some a) e z = refused-kept c a e z
 
-  step-kept : (S : State Value) (A : Matrix Value) (c : Call Value) → numberOf (step N 𝟘 𝟘 S c .answer) ≡ 0 → Kept S A → Kept (step N 𝟘 𝟘 S c .after) (updated N A c)
+  step-kept : (S : State Value) (A : Matrix Value) (c : Call Value) → numberOf (step N 𝟘 𝟘 S c .answer) ≡ 0 → Kept S A
+      → Kept (step N 𝟘 𝟘 S c .after) (updated N A c)
   step-kept S A c z k =
       subst (λ (n : ℕ). Kept (step N 𝟘 𝟘 S c .after) (updated N (record { n = n; entries = A .entries }) c)) (sym (k .size))
-      (step-kept-at (S .n) (S .L) (S .U) (A .entries) (k .factorization) c z)
+      (step-kept-at S (A .entries) (k .factorization) c z)
 
   pub run-kept : (S : State Value) (A : Matrix Value) (cs : List (Call Value)) → AllAccepted (run N 𝟘 𝟘 S cs) → Kept S A
       → Kept (lastState S (run N 𝟘 𝟘 S cs)) (updatedBy N A cs)
@@ -139,7 +139,7 @@ module _ (undefined : Undefined) where
   factored : (S : State Fraction) (A : Matrix Fraction) → Kept Λ S A → Factored undefined S A
   factored S A k = record {
     size = k .size;
-    factors = λ i j hi hj. laws-as-fractions undefined (factorTimes undefined S A i j) (upperTriangle (S .U) i j)
+    factors = λ i j hi hj. laws-as-fractions undefined (factorTimes undefined (S .n) (S .L) (A .entries) i j) (upperTriangle (S .U) i j)
         (val-product Λ (S .n) (S .L) (λ t. A .entries t j) i ∙ k .factorization .product i j hi hj ∙ below (leb i j) (S .U i j));
     regular = λ x z j hj. laws-as-fractions undefined (x j) (whole 0) (k .factorization .regular (λ t. Λ .val (x t))
         (λ i hi. sym (val-product Λ (S .n) (S .L) x i) ∙ laws-equal undefined (product N (S .n) (S .L) x i) (whole 0) (z i (omega arith)) ∙ Λ .val-zero) j hj ∙ sym (Λ .val-zero));

@@ -86,7 +86,7 @@ module _ (undefined : Undefined) where
     L : EqualRows (rowsOf (after calls .n) (after calls .L)) l
     U : EqualRows (rowsOf (after calls .n) (upperTriangle (after calls .U))) u
     A : EqualRows (rowsOf (spelled calls .n) (spelled calls .entries)) a
-    LA : EqualRows (rowsOf (after calls .n) (factorTimes undefined (after calls) (spelled calls))) u
+    LA : EqualRows (rowsOf (after calls .n) (factorTimes undefined (after calls .n) (after calls .L) (spelled calls .entries))) u
 
   pub record ExactTable : Type 0 where
     -- the bench table's rows

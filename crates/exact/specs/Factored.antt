@@ -1,5 +1,5 @@
--- Request (h) as a statement: over exact fractions, with E and T zero, L × A = U, and L is not singular. Among the definitions stand computed lines for what
--- becomes of a list's results, and for the triangle.
+-- Request (h) as a statement: over exact fractions, with E and T zero, L × A = U, and L is not singular. Computed lines stand
+-- among the definitions.
 use mathlib.Core.Path.{_≡_, refl}
 use mathlib.Core.Bool.{cond}
 use mathlib.Core.List.{List, [], _∷_}
@@ -33,7 +33,7 @@ module _ {A : Type 0} where
   lastState S [] = S
   lastState S (r ∷ rs) = lastState (r .after) rs
 
--- of four calls the first and the third accepted, computed
+-- of four calls the first and the third are accepted
 module _ {A : Type 0} (c : ℕ → Call A) (S : ℕ → State A) where
   abbrev result : Answer → ℕ → Result A
   result a i = record { answer = a; solved = []; after = S i }
@@ -66,11 +66,11 @@ module _ (undefined : Undefined) where
   exactRun = run (fractions undefined) (whole 0) (whole 0)
 
   -- L × A: column k is the L product of A's column k
-  abbrev pub factorTimes : State Fraction → Matrix Fraction → Table Fraction
-  factorTimes S A i k = product (fractions undefined) (S .n) (S .L) (λ j. A .entries j k) i
+  abbrev pub factorTimes : ℕ → Table Fraction → Table Fraction → Table Fraction
+  factorTimes n L A i k = product (fractions undefined) n L (λ j. A j k) i
 
-  -- the rows 1, 2; 3, 4 times the rows 5, 6; 7, 8, computed
-  pub times-at : let LA = factorTimes (record { n = 2; L = λ i j. whole (1 + 2 * i + j); U = λ i j. whole 0 }) (record { n = 2; entries = λ i j. whole (5 + 2 * i + j) }) in
+  -- the rows 1, 2; 3, 4 times the rows 5, 6; 7, 8
+  pub times-at : let LA = factorTimes 2 (λ i j. whole (1 + 2 * i + j)) (λ i j. whole (5 + 2 * i + j)) in
       (LA 0 0 ≈ whole 19) × (LA 0 1 ≈ whole 22) × (LA 1 0 ≈ whole 43) × (LA 1 1 ≈ whole 50)
   unfolding product sum
   times-at = (refl, refl, refl, refl)
@@ -78,7 +78,7 @@ module _ (undefined : Undefined) where
   pub record Factored (S : State Fraction) (A : Matrix Fraction) : Type 0 where
     pub size : A .n ≡ S .n
     -- L times A equals U with zeros below its diagonal
-    pub factors : (i k : ℕ) → i < S .n → k < S .n → factorTimes S A i k ≈ upperTriangle (S .U) i k
+    pub factors : (i k : ℕ) → i < S .n → k < S .n → factorTimes (S .n) (S .L) (A .entries) i k ≈ upperTriangle (S .U) i k
     -- L sends only the zero column to zero
     pub regular : (x : Vector Fraction) → ((i : ℕ) → i < S .n → product (fractions undefined) (S .n) (S .L) x i ≈ whole 0) → (j : ℕ) → j < S .n → x j ≈ whole 0
 
