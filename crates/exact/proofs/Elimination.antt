@@ -107,7 +107,7 @@ module _ {N : NumberForm} (Λ : ExactLaws N) where
 
   module _ (n q : ℕ) (A : Table F) where
     -- the rows before `row` are done: what is left of y, from row on, stands for row `last` of U
-    abbrev pub ForwardState : ℕ → ℕ → Work Value → Type 0
+    abbrev ForwardState : ℕ → ℕ → Work Value → Type 0
     ForwardState last row S = Factorization ring n q A (values (S .L)) (withRow last row S)
 
     module _ (last row : ℕ) (hn : last < n) (hr : row < last) (S : Work Value) where

@@ -51,20 +51,20 @@ module _ (ring : CommutativeRing) where
 
   infixl 60 _⊕_
   infixl 70 _⊗_
-  pub distrib-left : (a b c : F) → a ⊗ (b ⊕ c) ≡ a ⊗ b ⊕ a ⊗ c
+  distrib-left : (a b c : F) → a ⊗ (b ⊕ c) ≡ a ⊗ b ⊕ a ⊗ c
   distrib-left a b c = mul-comm a (b ⊕ c) ∙ distrib b c a ∙ ap₂ _⊕_ (mul-comm b a) (mul-comm c a)
 
-  pub mul-left-comm : (a b c : F) → a ⊗ (b ⊗ c) ≡ b ⊗ (a ⊗ c)
+  mul-left-comm : (a b c : F) → a ⊗ (b ⊗ c) ≡ b ⊗ (a ⊗ c)
   mul-left-comm a b c = sym (mul-assoc a b c) ∙ ap (λ (t : F). t ⊗ c) (mul-comm a b) ∙ mul-assoc b a c
 
-  pub add-left-comm : (a b c : F) → a ⊕ (b ⊕ c) ≡ b ⊕ (a ⊕ c)
+  add-left-comm : (a b c : F) → a ⊕ (b ⊕ c) ≡ b ⊕ (a ⊕ c)
   add-left-comm a b c = sym (add-assoc a b c) ∙ ap (λ (t : F). t ⊕ c) (add-comm a b) ∙ add-assoc b a c
 
-  pub zero-add : (a : F) → 𝟎 ⊕ a ≡ a
+  zero-add : (a : F) → 𝟎 ⊕ a ≡ a
   zero-add a = add-comm 𝟎 a ∙ add-zero a
 
   -- what changes nothing is zero
-  pub add-cancel : (a b : F) → a ⊕ b ≡ b → a ≡ 𝟎
+  add-cancel : (a b : F) → a ⊕ b ≡ b → a ≡ 𝟎
   add-cancel a b h =
       sym (add-zero a) ∙ ap (λ (x : F). a ⊕ x) (sym (add-neg b)) ∙ sym (add-assoc a b (⊖ b)) ∙ ap (λ (x : F). x ⊕ ⊖ b) h ∙ add-neg b
 
@@ -74,7 +74,7 @@ module _ (ring : CommutativeRing) where
   pub mul-zero : (a : F) → a ⊗ 𝟎 ≡ 𝟎
   mul-zero a = mul-comm a 𝟎 ∙ zero-mul a
 
-  pub one-mul : (a : F) → 𝟏 ⊗ a ≡ a
+  one-mul : (a : F) → 𝟏 ⊗ a ≡ a
   one-mul a = mul-comm 𝟏 a ∙ mul-one a
 
   -- ---- sums
