@@ -110,6 +110,7 @@ module _ (undefined : Undefined) where
     -- the calls that are not refused are P's
     interrupted-told : answers (exactRun undefined empty interrupted) ≡ done ∷ refused 5 ∷ refused 7 ∷ done ∷ refused 7 ∷ refused 6 ∷ []
     refused-left-out : acceptedCalls interrupted (exactRun undefined empty interrupted) ≡ P
+    refused-leave : after interrupted ≡ after P
 
   pub exactTable : ExactTable
   unfolding after spelled
@@ -124,4 +125,5 @@ module _ (undefined : Undefined) where
     moves-told = refl;
     interrupted-told = refl;
     refused-left-out = refl;
+    refused-leave = refl;
   }
