@@ -12,7 +12,7 @@ use Rattle.numbers.specs.PairStep.{Step, pairStep, first, second}
 use Rattle.machine.specs.Tables.{Vector, Table, Work, put}
 use Rattle.machine.specs.Forward.{copyDenseToRow, transformRows, forwardActs, forwardTransform, forwardRow, forwardRows, forward}
 use Rattle.machine.specs.Backward.{copyRowToDense, negligible, trim, clearDense, backwardSkips, backwardTransform, backwardRow, backwardRows, backward}
-use Rattle.exact.proofs.Ring.{tested, equal-or-not, below-or-not, CommutativeRing, columnOf, withColumn, zero-mul, Factorization, right-same, Stepped, zero-stepped, stepped-column, stepped-same, stepped-factorization}
+use Rattle.exact.proofs.Ring.{tested, equal-or-not, below-or-not, cond-ap, CommutativeRing, columnOf, withColumn, zero-mul, Factorization, right-same, Stepped, zero-stepped, stepped-column, stepped-same, stepped-factorization}
 
 -- What the steps need of a number form. Numbers of one value may differ, as 2/4 and 1/2. Nothing is asked of what a division by zero gives, nor of `absent`.
 pub record ExactLaws (N : NumberForm) : Type 1 where
@@ -65,8 +65,7 @@ module _ {N : NumberForm} (Λ : ExactLaws N) where
 
   val-first : (swap : Bool) (a b : Value) → val (first N swap a b) ≡ cond swap (val b) (val a)
   unfolding first
-  val-first true a b = refl
-  val-first false a b = refl
+  val-first swap a b = cond-ap val swap b a
 
   val-second : (swap : Bool) (m a b : Value) → val (second N swap m a b) ≡ cond swap (val a) (val b) ⊕ val m ⊗ cond swap (val b) (val a)
   unfolding second

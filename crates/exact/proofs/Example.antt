@@ -6,8 +6,9 @@ use Rattle.machine.specs.Calls.{Call, replaceRow, replaceColumn}
 use Rattle.machine.specs.Machine.{refusal, accepted, stepUnder, step, run}
 use Rattle.exact.specs.Fractions.{Fraction, whole, Undefined, fractions}
 use Rattle.exact.specs.Matrix.{matrixOf}
-use Rattle.exact.specs.Factored.{exactRun, lastState, Factored}
-use Rattle.exact.specs.Examples.{empty, singular, moves}
+use Rattle.exact.specs.Runs.{exactRun, lastState, empty}
+use Rattle.exact.specs.Factored.{Factored}
+use Rattle.exact.specs.Examples.{singular, moves}
 use Rattle.exact.proofs.Theorem.{factors-without-rounding}
 
 abbrev calls : List (Call Fraction)

@@ -1,6 +1,6 @@
 -- The steps over exact fractions are what ExactLaws asks for, whatever a division by zero and an absent entry give.
 use mathlib.Core.Path.{_≡_, refl, sym, ap, subst, _∙_}
-use mathlib.Core.Bool.{Bool, true, false, cond}
+use mathlib.Core.Bool.{Bool, true, false, true≢false, false≢true, cond}
 use mathlib.Core.Logic.{_≢_}
 use Prim.Native.Nat.{ℕ, zero, suc, _*_, _≤_, _<_}
 use native.Mathlib.Omega.{arith}
@@ -37,7 +37,7 @@ zero-at-most x m e =
 
 is-zero : (a : ℤ) → wholeIsZero a ≡ true → a ≡ pos 0
 is-zero (pos n) h = ap pos (eqb-true n 0 h)
-is-zero (negsuc n) h = let z : _≡_ {A = ℕ} 0 1 = cc in absurd (omega arith)
+is-zero (negsuc n) h = absurd (false≢true h)
 
 -- ---- division by what is not zero
 
@@ -86,17 +86,14 @@ module _ (undefined : Undefined) where
   unfolding pairStep first second
   pair-exact x y = go (atMost (magnitude y) (magnitude x)) (atMost (magnitude x) 𝟘) (atMost (magnitude y) 𝟘) refl refl refl
     where
-      true-false : {b : Bool} → b ≡ true → b ≡ false → ⊥
-      true-false e f = let z : _≡_ {A = ℕ} 0 1 = cc in omega arith
-
       go : (a b c : Bool) → atMost (magnitude y) (magnitude x) ≡ a → atMost (magnitude x) 𝟘 ≡ b → atMost (magnitude y) 𝟘 ≡ c
           → Exact x y (cond a (cond b (stepOf 𝟘 false 𝟘) (stepOf x false (N .div (negative y) x))) (cond c (stepOf 𝟘 false 𝟘) (stepOf y true (N .div (negative x) y))))
       go true true c ea eb ec =
           let hx = at-most-zero x 𝟘 refl eb in
           (sym (numerator-zero x hx), numerator-zero y (at-most-zero y (magnitude x) (ap (λ (t : ℤ). pos (natAbs t)) hx) ea))
-      go true false c ea eb ec = (refl, eliminated (undefined .over-zero (negative y) x) y x (λ e. true-false (zero-at-most x 𝟘 e) eb))
-      go false b true ea eb ec = absurd (true-false (zero-at-most y x (at-most-zero y 𝟘 refl ec)) ea)
-      go false b false ea eb ec = (refl, eliminated (undefined .over-zero (negative x) y) x y (λ e. true-false (zero-at-most y 𝟘 e) ec))
+      go true false c ea eb ec = (refl, eliminated (undefined .over-zero (negative y) x) y x (λ e. true≢false (sym (zero-at-most x 𝟘 e) ∙ eb)))
+      go false b true ea eb ec = absurd (true≢false (sym (zero-at-most y x (at-most-zero y 𝟘 refl ec)) ∙ ea))
+      go false b false ea eb ec = (refl, eliminated (undefined .over-zero (negative x) y) x y (λ e. true≢false (sym (zero-at-most y 𝟘 e) ∙ ec)))
 
   -- ---- what ExactLaws asks for
 

@@ -20,6 +20,11 @@ equal-or-not i a f g = tested (eqb i a) (λ e. f (eqb-true i a e)) (λ e. g (eqb
 pub below-or-not {ℓ} : {C : Type ℓ} (i a : ℕ) → (i < a → C) → (a ≤ i → C) → C
 below-or-not i a f g = tested (ltb i a) (λ e. f (ltb-true i a e)) (λ e. g (ltb-false i a e))
 
+-- a function of a choice
+pub cond-ap : {A B : Type 0} (f : A → B) (b : Bool) (x y : A) → f (cond b x y) ≡ cond b (f x) (f y)
+cond-ap f true x y = refl
+cond-ap f false x y = refl
+
 -- ---- rings
 
 pub record CommutativeRing : Type 1 where
@@ -138,6 +143,20 @@ module _ (ring : CommutativeRing) where
 
   pub right-same : {n q : ℕ} {A M R R′ : Table F} → ((i k : ℕ) → i < n → k < q → R i k ≡ R′ i k) → Factorization n q A M R → Factorization n q A M R′
   right-same = factorization-same (λ i k hi hk. refl) (λ i j hi hj. refl)
+
+  -- A′ is A with another column k, whose image is v
+  pub column-in : {n q p : ℕ} {A M R : Table F} (k : ℕ) (v : Vector F) (A′ : Table F) → p ≤ q → ((i j : ℕ) → j ≢ k → A′ i j ≡ A i j)
+      → ((i : ℕ) → i < n → image n M (columnOf A′ k) i ≡ v i) → Factorization n q A M R → Factorization n p A′ M (withColumn k v R)
+  column-in {n} {M = M} k v A′ l other image-k h = record {
+    product = λ i j hi hj. equal-or-not j k
+        (λ e. rw (eq-eqb j k e, e) (image-k i hi))
+        (λ d. rw (ne-eqb j k d) (Σ-same n _ _ (λ t ht. ap (λ (x : F). M i t ⊗ x) (other t j d)) ∙ h .product i j hi (omega arith)));
+    regular = h .regular;
+  }
+
+  -- at dimension zero
+  pub empty-factorization : {A M R : Table F} → Factorization 0 0 A M R
+  empty-factorization = record { product = λ i k hi hk. absurd (omega arith); regular = λ x z j hj. absurd (omega arith) }
 
   -- ---- a pair step as a row operation
 

@@ -1,5 +1,5 @@
 -- After every list of calls from dimension zero, L × A = U, and L sends only the zero column to zero, A being what the accepted calls spell out.
-use mathlib.Core.Path.{_≡_, refl, sym, subst, _∙_}
+use mathlib.Core.Path.{_≡_, refl, sym, ap, subst, _∙_}
 use mathlib.Core.Bool.{Bool, true, false, not, _&&_, cond}
 use mathlib.Core.List.{List, [], _∷_}
 use mathlib.Core.Logic.{_≢_}
@@ -17,8 +17,9 @@ use Rattle.machine.specs.Machine.{refusal, accepted, stepUnder, step, run}
 use Rattle.machine.proofs.Refusals.{or-else-none, index-within}
 use Rattle.exact.specs.Fractions.{Fraction, whole, Undefined, fractions}
 use Rattle.exact.specs.Matrix.{Matrix, updated, updatedBy, matrixOf}
-use Rattle.exact.specs.Factored.{AllAccepted, acceptedCalls, lastState, upperTriangle, exactRun, factorTimes, Factored, FactorsWithoutRounding}
-use Rattle.exact.proofs.Ring.{tested}
+use Rattle.exact.specs.Runs.{AllAccepted, acceptedCalls, lastState, exactRun}
+use Rattle.exact.specs.Factored.{upperTriangle, factorTimes, Factored, FactorsWithoutRounding}
+use Rattle.exact.proofs.Ring.{tested, cond-ap, empty-factorization}
 use Rattle.exact.proofs.Elimination.{ExactLaws}
 use Rattle.exact.proofs.Updates.{val-product, Invariant, pushed-kept, row-replaced-kept, column-replaced-kept, removed-kept}
 use Rattle.exact.proofs.Fractions.{laws, laws-equal, laws-as-fractions}
@@ -140,22 +141,20 @@ module _ (undefined : Undefined) where
   factored S A k = record {
     size = k .size;
     factors = λ i j hi hj. laws-as-fractions undefined (factorTimes undefined (S .n) (S .L) (A .entries) i j) (upperTriangle (S .U) i j)
-        (val-product Λ (S .n) (S .L) (λ t. A .entries t j) i ∙ k .factorization .product i j hi hj ∙ below (leb i j) (S .U i j));
+        (val-product Λ (S .n) (S .L) (λ t. A .entries t j) i ∙ k .factorization .product i j hi hj ∙ below i j);
     regular = λ x z j hj. laws-as-fractions undefined (x j) (whole 0) (k .factorization .regular (λ t. Λ .val (x t))
         (λ i hi. sym (val-product Λ (S .n) (S .L) x i) ∙ laws-equal undefined (product N (S .n) (S .L) x i) (whole 0) (z i (omega arith)) ∙ Λ .val-zero) j hj ∙ sym (Λ .val-zero));
   }
     where
-      below : (b : Bool) (u : Fraction) → cond b (Λ .val u) (Λ .ring .𝟎) ≡ Λ .val (cond b u (whole 0))
-      below true u = refl
-      below false u = sym (Λ .val-zero)
+      below : (i j : ℕ) → cond (leb i j) (Λ .val (S .U i j)) (Λ .ring .𝟎) ≡ Λ .val (upperTriangle (S .U) i j)
+      below i j = sym (cond-ap (Λ .val) (leb i j) (S .U i j) (whole 0) ∙ ap (cond (leb i j) (Λ .val (S .U i j))) (Λ .val-zero))
 
   accepted-list : (S : State Fraction) (calls : List (Call Fraction)) → S .n ≡ 0 → AllAccepted (exactRun undefined S calls)
       → Factored undefined (lastState S (exactRun undefined S calls)) (matrixOf N calls)
   unfolding matrixOf
-  accepted-list S calls e a = factored (lastState S (exactRun undefined S calls)) (matrixOf N calls) (run-kept Λ S _ calls a (record {
-    size = sym e;
-    factorization = record { product = λ i k hi hk. absurd (omega arith); regular = λ x z j hj. absurd (omega arith) };
-  }))
+  accepted-list S calls e a =
+      let start : Invariant Λ (S .n) (S .n) (λ i j. undefined .absent) (S .L) (S .U) = rw e (empty-factorization (Λ .ring)) in
+      factored (lastState S (exactRun undefined S calls)) (matrixOf N calls) (run-kept Λ S _ calls a (record { size = sym e; factorization = start }))
 
 pub factors-without-rounding : FactorsWithoutRounding
 factors-without-rounding undefined S calls from-zero =

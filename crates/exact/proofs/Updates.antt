@@ -15,7 +15,7 @@ use Rattle.machine.specs.Calls.{Call, push, replaceRow, replaceColumn, remove}
 use Rattle.machine.specs.Updates.{putColumn, putSelected, columnCopied, bordered, columnCleared, unitRow, restoredFrom, restored, pushed, columnReplaced, rowReplacedFrom, rowReplaced, columnDropped, removed}
 use Rattle.machine.proofs.Backward.{trim-le, trim-ge}
 use Rattle.exact.specs.Matrix.{updated}
-use Rattle.exact.proofs.Ring.{tested, equal-or-not, below-or-not, CommutativeRing, columnOf, withColumn, zero-mul, mul-zero, Σ, Σ-same, Σ-except, Σ-unit, image, Factorization, factorization-same, right-same, zero-vector}
+use Rattle.exact.proofs.Ring.{tested, equal-or-not, below-or-not, CommutativeRing, columnOf, withColumn, zero-mul, mul-zero, Σ, Σ-same, Σ-except, Σ-unit, image, Factorization, factorization-same, right-same, column-in, empty-factorization, zero-vector}
 use Rattle.exact.proofs.Elimination.{ExactLaws, values, triangle, withRow, vectorOf, forward-kept, trim-zero, BackwardState, backward-state}
 
 module _ {N : NumberForm} (Λ : ExactLaws N) where
@@ -146,12 +146,8 @@ module _ {N : NumberForm} (Λ : ExactLaws N) where
     replaced : Factorization ring n n (values Λ (next n A (replaceColumn k column))) (values Λ L)
         (withColumn k (vectorOf Λ (product N n L (entry N column))) (triangle Λ U))
     unfolding updated
-    replaced = record {
-      product = λ i j hi hj. equal-or-not j k
-          (λ e. rw (eq-eqb j k e) (Σ-same ring n _ _ (λ t ht. rw (eq-eqb j k e, values)) ∙ sym (val-product n L (entry N column) i)))
-          (λ d. rw (ne-eqb j k d) (Σ-same ring n _ _ (λ t ht. rw (ne-eqb j k d, values)) ∙ h .product i j hi hj));
-      regular = h .regular;
-    }
+    replaced = column-in ring k _ _ (omega arith) (λ i j d. rw (ne-eqb j k d, values))
+        (λ i hi. Σ-same ring n _ _ (λ t ht. rw (eq-eqb k k refl, values)) ∙ sym (val-product n L (entry N column) i)) h
 
     pub column-replaced-kept : Invariant n n (next n A (replaceColumn k column)) (columnReplaced N 𝟘 𝟘 n L U k column .L) (columnReplaced N 𝟘 𝟘 n L U k column .U)
     unfolding columnReplaced
@@ -169,12 +165,8 @@ module _ {N : NumberForm} (Λ : ExactLaws N) where
     A₁ i j = A i (cond (eqb j k) p j)
 
     dropped : Factorization ring (suc p) p (values Λ A₁) (values Λ L) (withColumn k (λ i. val (U i p)) (triangle Λ U))
-    dropped = record {
-      product = λ i j hi hj. equal-or-not j k
-          (λ e. rw (eq-eqb j k e) (Σ-same ring (suc p) _ _ (λ t ht. rw (eq-eqb j k e, values)) ∙ h .product i p hi (omega arith) ∙ rw (le-leb i p (omega arith))))
-          (λ d. rw (ne-eqb j k d) (Σ-same ring (suc p) _ _ (λ t ht. rw (ne-eqb j k d, values)) ∙ h .product i j hi (omega arith)));
-      regular = h .regular;
-    }
+    dropped = column-in ring k _ _ (omega arith) (λ i j d. rw (ne-eqb j k d, values))
+        (λ i hi. Σ-same ring (suc p) _ _ (λ t ht. rw (eq-eqb k k refl, values)) ∙ h .product i p hi (omega arith) ∙ rw (le-leb i p (omega arith))) h
 
     column-dropped-kept : Invariant (suc p) p A₁ (columnDropped N 𝟘 𝟘 p L U k .L) (columnDropped N 𝟘 𝟘 p L U k .U)
     unfolding columnDropped
@@ -346,7 +338,7 @@ module _ {N : NumberForm} (Λ : ExactLaws N) where
         first : n ≡ 1 → Invariant n n A₂ (pushed N 𝟘 𝟘 0 L U [] [] (entry N row 0) .L) (pushed N 𝟘 𝟘 0 L U [] [] (entry N row 0) .U)
         first e = subst (λ (t : ℕ). Factorization ring t t (values Λ A₂) (values Λ (Q .L)) (triangle Λ (Q .U))) (sym e)
             (factorization-same ring one (λ i j hi hj. refl) (λ i j hi hj. refl)
-            (pushed-kept 0 A L U [] [] (entry N row 0) (record { product = λ i k hi hk. absurd (omega arith); regular = λ x z j hj. absurd (omega arith) })))
+            (pushed-kept 0 A L U [] [] (entry N row 0) (empty-factorization ring)))
           where
             Q : Work Value
             Q = pushed N 𝟘 𝟘 0 L U [] [] (entry N row 0)

@@ -3,17 +3,11 @@
 use mathlib.Core.Path.{_≡_, refl}
 use mathlib.Core.List.{List, [], _∷_, _++_}
 use mathlib.Core.Option.{some}
-use Rattle.numbers.specs.PairStep.{pairStep, first, second}
-use Rattle.machine.specs.Tables.{State}
-use Rattle.machine.specs.Products.{sum, product}
-use Rattle.machine.specs.Forward.{copyDenseToRow, transformRows, forwardActs, forwardTransform, forwardRow, forwardRows, forward}
-use Rattle.machine.specs.Backward.{copyRowToDense, negligible, trim, clearDense, backwardSkips, backwardTransform, backwardRow, backwardRows, backward}
-use Rattle.machine.specs.Updates.{putColumn, putSelected, columnCopied, bordered, columnCleared, unitRow, restoredFrom, restored, pushed, columnReplaced, rowReplacedFrom, rowReplaced, columnDropped, removed}
 use Rattle.machine.specs.Calls.{Call, push, replaceRow, replaceColumn, remove, Answer, done, moved, refused, Result}
-use Rattle.machine.specs.Machine.{refusal, accepted, stepUnder, step, run}
 use Rattle.exact.specs.Fractions.{Fraction, _≈_, negative, whole, ratio, Undefined, fractions}
 use Rattle.exact.specs.Matrix.{Matrix, rowsOf, updated, updatedBy, matrixOf}
-use Rattle.exact.specs.Factored.{acceptedCalls, lastState, upperTriangle, exactRun, factorTimes}
+use Rattle.exact.specs.Runs.{acceptedCalls, exactRun, small, empty, after}
+use Rattle.exact.specs.Factored.{upperTriangle, factorTimes}
 
 -- entries that are equal as fractions
 abbrev Equal : List Fraction → List Fraction → Type 0
@@ -41,10 +35,6 @@ answers (r ∷ rs) = r .answer ∷ answers rs
 abbrev pub P : List (Call Fraction)
 P = push [] [] (whole 2) ∷ push (whole 4 ∷ []) (whole 6 ∷ []) (whole 1) ∷ []
 
--- numbers of at most 1, which a larger E or T would pass over
-abbrev pub small : List (Call Fraction)
-small = push [] [] (ratio 1 2) ∷ push (ratio 1 4 ∷ []) (whole 3 ∷ []) (whole 1) ∷ []
-
 abbrev pub singular : List (Call Fraction)
 singular = push [] [] (whole 1) ∷ push (whole 2 ∷ []) (whole 3 ∷ []) (whole 6) ∷ []
 
@@ -66,27 +56,16 @@ interrupted =
 -- ---- what they leave
 
 module _ (undefined : Undefined) where
-  -- dimension zero
-  abbrev pub empty : State Fraction
-  empty = record { n = 0; L = λ i j. undefined .absent; U = λ i j. undefined .absent }
-
-  -- Who unfolds `after` unfolds the whole machine.
-  after : List (Call Fraction) → State Fraction
-  unfolding run step stepUnder accepted refusal pushed bordered columnReplaced putColumn restored restoredFrom putSelected rowReplaced rowReplacedFrom columnCleared unitRow removed
-      columnDropped columnCopied forward copyDenseToRow forwardRows forwardRow forwardActs forwardTransform transformRows
-      backward copyRowToDense negligible trim backwardRows backwardRow clearDense backwardSkips backwardTransform product sum pairStep first second
-  after calls = lastState empty (exactRun undefined empty calls)
-
   spelled : List (Call Fraction) → Matrix Fraction
   unfolding matrixOf updatedBy updated
   spelled calls = matrixOf (fractions undefined) calls
 
   -- what calls leave: L, U with zeros below its diagonal, which is also L × A, and A
   pub record Leaves (calls : List (Call Fraction)) (l u a : List (List Fraction)) : Type 0 where
-    L : EqualRows (rowsOf (after calls .n) (after calls .L)) l
-    U : EqualRows (rowsOf (after calls .n) (upperTriangle (after calls .U))) u
+    L : EqualRows (rowsOf (after undefined calls .n) (after undefined calls .L)) l
+    U : EqualRows (rowsOf (after undefined calls .n) (upperTriangle (after undefined calls .U))) u
     A : EqualRows (rowsOf (spelled calls .n) (spelled calls .entries)) a
-    LA : EqualRows (rowsOf (after calls .n) (factorTimes undefined (after calls .n) (after calls .L) (spelled calls .entries))) u
+    LA : EqualRows (rowsOf (after undefined calls .n) (factorTimes undefined (after undefined calls .n) (after undefined calls .L) (spelled calls .entries))) u
 
   pub record ExactTable : Type 0 where
     -- the bench table's rows
@@ -106,11 +85,11 @@ module _ (undefined : Undefined) where
         (rows (whole 0) (whole 1) (whole 1) (negative (ratio 3 4))) (rows (whole 4) (negative (whole 7)) (whole 0) (ratio 57 4))
         (rows (whole 3) (whole 9) (whole 4) (negative (whole 7)))
     -- A's moves are those that remove tells of
-    moves-told : answers (exactRun undefined empty moves) ≡ done ∷ done ∷ done ∷ moved (some 2) (some 2) ∷ []
+    moves-told : answers (exactRun undefined (empty undefined) moves) ≡ done ∷ done ∷ done ∷ moved (some 2) (some 2) ∷ []
     -- the calls that are not refused are P's
-    interrupted-told : answers (exactRun undefined empty interrupted) ≡ done ∷ refused 5 ∷ refused 7 ∷ done ∷ refused 7 ∷ refused 6 ∷ []
-    refused-left-out : acceptedCalls interrupted (exactRun undefined empty interrupted) ≡ P
-    refused-leave : after interrupted ≡ after P
+    interrupted-told : answers (exactRun undefined (empty undefined) interrupted) ≡ done ∷ refused 5 ∷ refused 7 ∷ done ∷ refused 7 ∷ refused 6 ∷ []
+    refused-left-out : acceptedCalls interrupted (exactRun undefined (empty undefined) interrupted) ≡ P
+    refused-leave : after undefined interrupted ≡ after undefined P
 
   pub exactTable : ExactTable
   unfolding after spelled

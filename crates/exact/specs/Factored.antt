@@ -3,54 +3,14 @@
 use mathlib.Core.Path.{_≡_, refl}
 use mathlib.Core.Bool.{cond}
 use mathlib.Core.List.{List, [], _∷_}
-use mathlib.Core.Option.{none}
 use Prim.Native.Nat.{ℕ, _+_, _*_, _<_}
-use native.Mathlib.Omega.{arith}
-use lib.Dec.{leb, eqb}
+use lib.Dec.{leb}
 use Rattle.machine.specs.Tables.{Vector, Table, State}
 use Rattle.machine.specs.Products.{sum, product}
-use Rattle.machine.specs.Calls.{Call, Answer, done, moved, refused, refusedAt, Result, numberOf}
-use Rattle.machine.specs.Machine.{run}
+use Rattle.machine.specs.Calls.{Call}
 use Rattle.exact.specs.Fractions.{Fraction, _≈_, whole, Undefined, fractions}
 use Rattle.exact.specs.Matrix.{Matrix, matrixOf}
-
--- ---- lists of calls and their runs
-
-module _ {A : Type 0} where
-  -- no call of a run was refused: the number of a success is 0, that of a refusal is not
-  abbrev pub AllAccepted : List (Result A) → Type 0
-  AllAccepted [] = Unit {0}
-  AllAccepted (r ∷ rs) = (numberOf (r .answer) ≡ 0) × AllAccepted rs
-
-  -- the calls of a list that its run did not refuse
-  abbrev pub acceptedCalls : List (Call A) → List (Result A) → List (Call A)
-  acceptedCalls [] rs = []
-  acceptedCalls (c ∷ cs) [] = []
-  acceptedCalls (c ∷ cs) (r ∷ rs) = cond (eqb (numberOf (r .answer)) 0) (c ∷ acceptedCalls cs rs) (acceptedCalls cs rs)
-
-  -- the state that a run from S leaves
-  abbrev pub lastState : State A → List (Result A) → State A
-  lastState S [] = S
-  lastState S (r ∷ rs) = lastState (r .after) rs
-
--- of four calls the first and the third are accepted
-module _ {A : Type 0} (c : ℕ → Call A) (S : ℕ → State A) where
-  abbrev result : Answer → ℕ → Result A
-  result a i = record { answer = a; solved = []; after = S i }
-
-  abbrev results : List (Result A)
-  results = result done 1 ∷ result (refused 7) 1 ∷ result (moved none none) 2 ∷ result (refusedAt 9 0) 2 ∷ []
-
-  pub record ListTable : Type 0 where
-    accepted : AllAccepted (result done 1 ∷ result (moved none none) 2 ∷ [])
-    not-accepted : AllAccepted results → ⊥
-    picked : acceptedCalls (c 0 ∷ c 1 ∷ c 2 ∷ c 3 ∷ []) results ≡ c 0 ∷ c 2 ∷ []
-    last : lastState (S 0) results ≡ S 2
-
-  pub listTable : ListTable
-  listTable = record { accepted = (refl, (refl, tt)); not-accepted = λ h. omega arith; picked = refl; last = refl }
-
--- ---- the factors and the matrix
+use Rattle.exact.specs.Runs.{AllAccepted, acceptedCalls, lastState, exactRun}
 
 -- U with zeros below its diagonal
 abbrev pub upperTriangle : Table Fraction → Table Fraction
@@ -61,10 +21,6 @@ pub triangle-at : (U : Table Fraction)
 triangle-at U = refl
 
 module _ (undefined : Undefined) where
-  -- the steps of document 01 over exact fractions, with E and T zero
-  abbrev pub exactRun : State Fraction → List (Call Fraction) → List (Result Fraction)
-  exactRun = run (fractions undefined) (whole 0) (whole 0)
-
   -- L × A: column k is the L product of A's column k
   abbrev pub factorTimes : ℕ → Table Fraction → Table Fraction → Table Fraction
   factorTimes n L A i k = product (fractions undefined) n L (λ j. A j k) i
