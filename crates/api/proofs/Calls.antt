@@ -14,6 +14,7 @@ use Rattle.machine.specs.Updates.{pushed, columnReplaced, rowReplaced, removed}
 use Rattle.machine.specs.Solves.{backSubstitution, forwardSubstitution, solution, solutionTransposed, diagonals}
 use Rattle.machine.specs.Calls.{push, replaceRow, replaceColumn, remove, solve, solveTransposed, Answer, done, moved, refused}
 use Rattle.machine.specs.Machine.{accepted}
+use Rattle.machine.specs.Counts.{pushedCount, columnReplacedCount, rowReplacedCount, removedCount, acceptedCount}
 use Rattle.machine.specs.Agreement.{Agree}
 use Rattle.machine.proofs.Choice.{listed}
 use Rattle.storage.specs.Places.{WorkPlace, lIndex}
@@ -23,6 +24,7 @@ use Rattle.storage.proofs.Places.{lIndex-not-work}
 use Rattle.ranges.specs.Written.{Written}
 use Rattle.buffers.specs.Performed.{Room}
 use Rattle.stages.specs.Stages.{Updated}
+use Rattle.machine.specs.Counter.{capped}
 use Rattle.managed.specs.Instance.{instance, lentToSolve}
 use Rattle.managed.specs.Outcome.{UpdateFrame, SolveFrame, Outcome}
 use Rattle.managed.proofs.Refusals.{StoragePassed}
@@ -45,43 +47,43 @@ module _ (N : NumberForm) where
 module _ (N : NumberForm) (E T : N .Value) where
   open NumberForm N using (Value, absent)
 
-  module _ (n c : ℕ) (l u y z w : List Value) {l′ u′ y′ z′ w′ : List Value} where
+  module _ (n c counter : ℕ) (l u y z w : List Value) {l′ u′ y′ z′ w′ : List Value} where
     -- an update's frame at the larger of the two dimensions
-    framed : (m k : ℕ) {p : ℕ} {R : Work Value} → max n p ≡ m → Updated N c m k R l u y z w l′ u′ y′ z′ w′ → UpdateFrame N (max n p) (instance n c l u y z w) (instance p c l′ u′ y′ z′ w′)
-    framed m k e d = rw e (record { l = d .l-kept; u = d .u-kept; y = d .y-kept; z = d .z-kept; w = d .w-kept })
+    framed : (m k counter′ : ℕ) {p : ℕ} {R : Work Value} → max n p ≡ m → Updated N c m k R l u y z w l′ u′ y′ z′ w′ → UpdateFrame N (max n p) (instance n c counter l u y z w) (instance p c counter′ l′ u′ y′ z′ w′)
+    framed m k counter′ e d = rw e (record { l = d .l-kept; u = d .u-kept; y = d .y-kept; z = d .z-kept; w = d .w-kept })
 
-    pub push-outcome : (row column : List Value) (d : Value) → pushTests n c (lengthsOf l u y z w) (length row) (length column) ≡ none
+    pub push-outcome : (row column : List Value) (d : Value) {k counter′ : ℕ} → pushTests n c (lengthsOf l u y z w) (length row) (length column) ≡ none
         → Updated N c (n + 1) (n + 1) (pushed N E T n (viewL N c l) (viewU N c u) row column d) l u y z w l′ u′ y′ z′ w′
-        → Outcome N E T (push row column d) (instance n c l u y z w) (instance (n + 1) c l′ u′ y′ z′ w′) done []
-    unfolding accepted
-    push-outcome row column d e update =
-        outcome-accepted N E T (push row column d) (instance n c l u y z w) (push-tested N n c l u y z w row column d ∙ e)
-        (record { answer = refl; solved = refl; after = record { n = omega arith; L = update .agree .L; U = update .agree .U } }) refl (framed (n + 1) (n + 1) (omega arith) update)
+        → k ≡ pushedCount N E T n (viewL N c l) (viewU N c u) row column d → counter′ ≡ capped (counter + k) → Outcome N E T (push row column d) (instance n c counter l u y z w) (instance (n + 1) c counter′ l′ u′ y′ z′ w′) done [] k
+    unfolding accepted acceptedCount
+    push-outcome row column d e update counted added =
+        outcome-accepted N E T (push row column d) (instance n c counter l u y z w) (push-tested N n c counter l u y z w row column d ∙ e)
+        (record { answer = refl; solved = refl; after = record { n = omega arith; L = update .agree .L; U = update .agree .U } }) counted refl added (framed (n + 1) (n + 1) _ (omega arith) update)
 
-    pub row-outcome : (row : ℕ) (values : List Value) → replacementTests n c (lengthsOf l u y z w) row (refused 5) (length values) ≡ none
+    pub row-outcome : (row : ℕ) (values : List Value) {k counter′ : ℕ} → replacementTests n c (lengthsOf l u y z w) row (refused 5) (length values) ≡ none
         → Updated N c n n (rowReplaced N E T n (viewL N c l) (viewU N c u) row values) l u y z w l′ u′ y′ z′ w′
-        → Outcome N E T (replaceRow row values) (instance n c l u y z w) (instance n c l′ u′ y′ z′ w′) done []
-    unfolding accepted
-    row-outcome row values e update =
-        outcome-accepted N E T (replaceRow row values) (instance n c l u y z w) (row-tested N n c l u y z w row values ∙ e)
-        (record { answer = refl; solved = refl; after = update .agree }) refl (framed n n (omega arith) update)
+        → k ≡ rowReplacedCount N E T n (viewL N c l) (viewU N c u) row values → counter′ ≡ capped (counter + k) → Outcome N E T (replaceRow row values) (instance n c counter l u y z w) (instance n c counter′ l′ u′ y′ z′ w′) done [] k
+    unfolding accepted acceptedCount
+    row-outcome row values e update counted added =
+        outcome-accepted N E T (replaceRow row values) (instance n c counter l u y z w) (row-tested N n c counter l u y z w row values ∙ e)
+        (record { answer = refl; solved = refl; after = update .agree }) counted refl added (framed n n _ (omega arith) update)
 
-    pub column-outcome : (column : ℕ) (values : List Value) → replacementTests n c (lengthsOf l u y z w) column (refused 6) (length values) ≡ none
+    pub column-outcome : (column : ℕ) (values : List Value) {k counter′ : ℕ} → replacementTests n c (lengthsOf l u y z w) column (refused 6) (length values) ≡ none
         → Updated N c n n (columnReplaced N E T n (viewL N c l) (viewU N c u) column values) l u y z w l′ u′ y′ z′ w′
-        → Outcome N E T (replaceColumn column values) (instance n c l u y z w) (instance n c l′ u′ y′ z′ w′) done []
-    unfolding accepted
-    column-outcome column values e update =
-        outcome-accepted N E T (replaceColumn column values) (instance n c l u y z w) (column-tested N n c l u y z w column values ∙ e)
-        (record { answer = refl; solved = refl; after = update .agree }) refl (framed n n (omega arith) update)
+        → k ≡ columnReplacedCount N E T n (viewL N c l) (viewU N c u) column values → counter′ ≡ capped (counter + k) → Outcome N E T (replaceColumn column values) (instance n c counter l u y z w) (instance n c counter′ l′ u′ y′ z′ w′) done [] k
+    unfolding accepted acceptedCount
+    column-outcome column values e update counted added =
+        outcome-accepted N E T (replaceColumn column values) (instance n c counter l u y z w) (column-tested N n c counter l u y z w column values ∙ e)
+        (record { answer = refl; solved = refl; after = update .agree }) counted refl added (framed n n _ (omega arith) update)
 
-    pub remove-outcome : (row column : ℕ) {a : Answer} → removeTests n c (lengthsOf l u y z w) row column ≡ none
+    pub remove-outcome : (row column : ℕ) {a : Answer} {k counter′ : ℕ} → removeTests n c (lengthsOf l u y z w) row column ≡ none
         → a ≡ moved (cond (eqb row (n - 1)) none (some (n - 1))) (cond (eqb column (n - 1)) none (some (n - 1)))
         → Updated N c n (n - 1) (removed N E T (n - 1) (viewL N c l) (viewU N c u) row column) l u y z w l′ u′ y′ z′ w′
-        → Outcome N E T (remove row column) (instance n c l u y z w) (instance (n - 1) c l′ u′ y′ z′ w′) a []
-    unfolding accepted
-    remove-outcome row column e is-a update =
-        outcome-accepted N E T (remove row column) (instance n c l u y z w) (remove-tested N n c l u y z w row column ∙ e)
-        (record { answer = is-a; solved = refl; after = update .agree }) refl (framed n (n - 1) (omega arith) update)
+        → k ≡ removedCount N E T (n - 1) (viewL N c l) (viewU N c u) row column → counter′ ≡ capped (counter + k) → Outcome N E T (remove row column) (instance n c counter l u y z w) (instance (n - 1) c counter′ l′ u′ y′ z′ w′) a [] k
+    unfolding accepted acceptedCount
+    remove-outcome row column e is-a update counted added =
+        outcome-accepted N E T (remove row column) (instance n c counter l u y z w) (remove-tested N n c counter l u y z w row column ∙ e)
+        (record { answer = is-a; solved = refl; after = update .agree }) counted refl added (framed n (n - 1) _ (omega arith) update)
 
   -- ---- solves
 
@@ -91,7 +93,7 @@ module _ (N : NumberForm) (E T : N .Value) where
       let long : length b′ ≡ n = h .kept .long ∙ e in
       listed b′ f absent (λ i l. h .value i (omega arith)) ∙ ap (λ (k : ℕ). tabulate k f) long
 
-  module _ (n c : ℕ) (l u : List Value) {l′ : List Value} (kept : Kept N (WorkPlace c n) l l′) where
+  module _ (n c counter : ℕ) (l u : List Value) {l′ : List Value} (kept : Kept N (WorkPlace c n) l l′) where
     standing : n ≤ c → Agree (record { n = n; L = viewL N c l′; U = viewU N c u }) (record { n = n; L = viewL N c l; U = viewU N c u })
     standing h = record {
       n = refl;
@@ -99,22 +101,22 @@ module _ (N : NumberForm) (E T : N .Value) where
       U = λ i j _ _. refl;
     }
 
-    solve-framed : SolveFrame N (lentToSolve n c l u) (lentToSolve n c l′ u)
+    solve-framed : SolveFrame N (lentToSolve n c counter l u) (lentToSolve n c counter l′ u)
     solve-framed = record { l = kept; u = refl; y = refl; z = refl; w = refl }
 
     pub solve-outcome : (b : List Value) {b′ : List Value} → solveTests n c (length l) (length u) (length b) (diagonals N (viewU N c u) n) ≡ none → Written N (λ i. i) n (backSubstitution N n (viewU N c u) (product N n (viewL N c l) (entry N b)) n) b b′
-        → Outcome N E T (solve b) (lentToSolve n c l u) (lentToSolve n c l′ u) done b′
-    unfolding accepted solution
+        → Outcome N E T (solve b) (lentToSolve n c counter l u) (lentToSolve n c counter l′ u) done b′ 0
+    unfolding accepted solution acceptedCount
     solve-outcome b e h =
         let passed = solve-passed n c (length l) (length u) (length b) _ e in
-        outcome-accepted N E T (solve b) (lentToSolve n c l u) (solve-tested N n c l u b ∙ e)
-        (record { answer = refl; solved = whole (passed .1) h; after = standing (passed .0 .dimension) }) refl solve-framed
+        outcome-accepted N E T (solve b) (lentToSolve n c counter l u) (solve-tested N n c counter l u b ∙ e)
+        (record { answer = refl; solved = whole (passed .1) h; after = standing (passed .0 .dimension) }) refl refl refl solve-framed
 
     pub transposed-outcome : (b : List Value) {b′ : List Value} → solveTests n c (length l) (length u) (length b) (diagonals N (viewU N c u) n) ≡ none
         → Written N (λ i. i) n (productTransposed N n (viewL N c l) (forwardSubstitution N (viewU N c u) (entry N b) n)) b b′
-        → Outcome N E T (solveTransposed b) (lentToSolve n c l u) (lentToSolve n c l′ u) done b′
-    unfolding accepted solutionTransposed
+        → Outcome N E T (solveTransposed b) (lentToSolve n c counter l u) (lentToSolve n c counter l′ u) done b′ 0
+    unfolding accepted solutionTransposed acceptedCount
     transposed-outcome b e h =
         let passed = solve-passed n c (length l) (length u) (length b) _ e in
-        outcome-accepted N E T (solveTransposed b) (lentToSolve n c l u) (transposed-tested N n c l u b ∙ e)
-        (record { answer = refl; solved = whole (passed .1) h; after = standing (passed .0 .dimension) }) refl solve-framed
+        outcome-accepted N E T (solveTransposed b) (lentToSolve n c counter l u) (transposed-tested N n c counter l u b ∙ e)
+        (record { answer = refl; solved = whole (passed .1) h; after = standing (passed .0 .dimension) }) refl refl refl solve-framed

@@ -33,48 +33,48 @@ use Rattle.api.proofs.LuMod.solve_transpose_in_place.Reads as transpose
 pub push-event : (κs : Lfts 7) (a : ArgsD push-code.signature κs) (r : ResD push-code.signature κs) (s : AtExit (endedOf 7 push-kinds.ps push-kinds.r) κs)
     → push-contract.Learnt κs a r s
     → ManagedOutcome (calls.push (now (a .1 .1 .1 .1 .1 .1 .0)) (now (a .1 .1 .1 .1 .1 .1 .1 .0)) (a .1 .1 .1 .1 .1 .1 .1 .1 .0))
-    (instance (a .0 .n) (a .0 .capacity) (now (a .1 .0)) (now (a .1 .1 .0)) (now (a .1 .1 .1 .0)) (now (a .1 .1 .1 .1 .0)) (now (a .1 .1 .1 .1 .1 .0)))
-    (instance (r .state .n) (r .state .capacity) (now (s .1 .0)) (now (s .1 .1 .0)) (now (s .1 .1 .1 .0)) (now (s .1 .1 .1 .1 .0)) (now (s .1 .1 .1 .1 .1 .0)))
-    (answerOf (r .answer)) []
+    (instance (a .0 .n) (a .0 .capacity) (a .0 .counter) (now (a .1 .0)) (now (a .1 .1 .0)) (now (a .1 .1 .1 .0)) (now (a .1 .1 .1 .1 .0)) (now (a .1 .1 .1 .1 .1 .0)))
+    (instance (r .state .n) (r .state .capacity) (r .state .counter) (now (s .1 .0)) (now (s .1 .1 .0)) (now (s .1 .1 .1 .0)) (now (s .1 .1 .1 .1 .0)) (now (s .1 .1 .1 .1 .1 .0)))
+    (answerOf (r .answer)) [] (r .steps)
 push-event κs a r s h = h
 
 -- a is self, l, u, y, z, w, row, values; s is the same afterwards, and r what is handed back
 pub row-event : (κs : Lfts 6) (a : ArgsD row-code.signature κs) (r : ResD row-code.signature κs) (s : AtExit (endedOf 6 row-kinds.ps row-kinds.r) κs)
     → row-contract.Learnt κs a r s
     → ManagedOutcome (calls.replaceRow (a .1 .1 .1 .1 .1 .1 .0 .0) (now (a .1 .1 .1 .1 .1 .1 .1 .0)))
-    (instance (a .0 .n) (a .0 .capacity) (now (a .1 .0)) (now (a .1 .1 .0)) (now (a .1 .1 .1 .0)) (now (a .1 .1 .1 .1 .0)) (now (a .1 .1 .1 .1 .1 .0)))
-    (instance (r .state .n) (r .state .capacity) (now (s .1 .0)) (now (s .1 .1 .0)) (now (s .1 .1 .1 .0)) (now (s .1 .1 .1 .1 .0)) (now (s .1 .1 .1 .1 .1 .0)))
-    (answerOf (r .answer)) []
+    (instance (a .0 .n) (a .0 .capacity) (a .0 .counter) (now (a .1 .0)) (now (a .1 .1 .0)) (now (a .1 .1 .1 .0)) (now (a .1 .1 .1 .1 .0)) (now (a .1 .1 .1 .1 .1 .0)))
+    (instance (r .state .n) (r .state .capacity) (r .state .counter) (now (s .1 .0)) (now (s .1 .1 .0)) (now (s .1 .1 .1 .0)) (now (s .1 .1 .1 .1 .0)) (now (s .1 .1 .1 .1 .1 .0)))
+    (answerOf (r .answer)) [] (r .steps)
 row-event κs a r s h = h
 
 -- a is self, l, u, y, z, w, column, values; s is the same afterwards, and r what is handed back
 pub column-event : (κs : Lfts 6) (a : ArgsD column-code.signature κs) (r : ResD column-code.signature κs) (s : AtExit (endedOf 6 column-kinds.ps column-kinds.r) κs)
     → column-contract.Learnt κs a r s
     → ManagedOutcome (calls.replaceColumn (a .1 .1 .1 .1 .1 .1 .0 .0) (now (a .1 .1 .1 .1 .1 .1 .1 .0)))
-    (instance (a .0 .n) (a .0 .capacity) (now (a .1 .0)) (now (a .1 .1 .0)) (now (a .1 .1 .1 .0)) (now (a .1 .1 .1 .1 .0)) (now (a .1 .1 .1 .1 .1 .0)))
-    (instance (r .state .n) (r .state .capacity) (now (s .1 .0)) (now (s .1 .1 .0)) (now (s .1 .1 .1 .0)) (now (s .1 .1 .1 .1 .0)) (now (s .1 .1 .1 .1 .1 .0)))
-    (answerOf (r .answer)) []
+    (instance (a .0 .n) (a .0 .capacity) (a .0 .counter) (now (a .1 .0)) (now (a .1 .1 .0)) (now (a .1 .1 .1 .0)) (now (a .1 .1 .1 .1 .0)) (now (a .1 .1 .1 .1 .1 .0)))
+    (instance (r .state .n) (r .state .capacity) (r .state .counter) (now (s .1 .0)) (now (s .1 .1 .0)) (now (s .1 .1 .1 .0)) (now (s .1 .1 .1 .1 .0)) (now (s .1 .1 .1 .1 .1 .0)))
+    (answerOf (r .answer)) [] (r .steps)
 column-event κs a r s h = h
 
 -- a is self, l, u, y, z, w, row, column; s is the same afterwards, and r what is handed back
 pub remove-event : (κs : Lfts 5) (a : ArgsD remove-code.signature κs) (r : ResD remove-code.signature κs) (s : AtExit (endedOf 5 remove-kinds.ps remove-kinds.r) κs)
     → remove-contract.Learnt κs a r s
     → ManagedOutcome (calls.remove (a .1 .1 .1 .1 .1 .1 .0 .0) (a .1 .1 .1 .1 .1 .1 .1 .0 .0))
-    (instance (a .0 .n) (a .0 .capacity) (now (a .1 .0)) (now (a .1 .1 .0)) (now (a .1 .1 .1 .0)) (now (a .1 .1 .1 .1 .0)) (now (a .1 .1 .1 .1 .1 .0)))
-    (instance (r .state .n) (r .state .capacity) (now (s .1 .0)) (now (s .1 .1 .0)) (now (s .1 .1 .1 .0)) (now (s .1 .1 .1 .1 .0)) (now (s .1 .1 .1 .1 .1 .0)))
-    (removeAnswerOf (r .answer)) []
+    (instance (a .0 .n) (a .0 .capacity) (a .0 .counter) (now (a .1 .0)) (now (a .1 .1 .0)) (now (a .1 .1 .1 .0)) (now (a .1 .1 .1 .1 .0)) (now (a .1 .1 .1 .1 .1 .0)))
+    (instance (r .state .n) (r .state .capacity) (r .state .counter) (now (s .1 .0)) (now (s .1 .1 .0)) (now (s .1 .1 .1 .0)) (now (s .1 .1 .1 .1 .0)) (now (s .1 .1 .1 .1 .1 .0)))
+    (removeAnswerOf (r .answer)) [] (r .steps)
 remove-event κs a r s h = h
 
 -- a is self, l, u, rhs; s is the same afterwards, and r what is handed back
 pub solve-event : (κs : Lfts 3) (a : ArgsD solve-code.signature κs) (r : ResD solve-code.signature κs) (s : AtExit (endedOf 3 solve-kinds.ps solve-kinds.r) κs)
     → solve-contract.Learnt κs a r s
-    → ManagedOutcome (calls.solve (now (a .1 .1 .1 .0))) (lentToSolve (a .0 .n) (a .0 .capacity) (now (a .1 .0)) (now (a .1 .1 .0)))
-    (lentToSolve (r .state .n) (r .state .capacity) (now (s .1 .0)) (now (a .1 .1 .0))) (answerOf (r .answer)) (now (s .1 .1 .1 .0))
+    → ManagedOutcome (calls.solve (now (a .1 .1 .1 .0))) (lentToSolve (a .0 .n) (a .0 .capacity) (a .0 .counter) (now (a .1 .0)) (now (a .1 .1 .0)))
+    (lentToSolve (r .state .n) (r .state .capacity) (r .state .counter) (now (s .1 .0)) (now (a .1 .1 .0))) (answerOf (r .answer)) (now (s .1 .1 .1 .0)) 0
 solve-event κs a r s h = h
 
 -- a is self, l, u, rhs; s is the same afterwards, and r what is handed back
 pub transposed-event : (κs : Lfts 3) (a : ArgsD transposed-code.signature κs) (r : ResD transposed-code.signature κs) (s : AtExit (endedOf 3 transposed-kinds.ps transposed-kinds.r) κs)
     → transposed-contract.Learnt κs a r s
-    → ManagedOutcome (calls.solveTransposed (now (a .1 .1 .1 .0))) (lentToSolve (a .0 .n) (a .0 .capacity) (now (a .1 .0)) (now (a .1 .1 .0)))
-    (lentToSolve (r .state .n) (r .state .capacity) (now (s .1 .0)) (now (a .1 .1 .0))) (answerOf (r .answer)) (now (s .1 .1 .1 .0))
+    → ManagedOutcome (calls.solveTransposed (now (a .1 .1 .1 .0))) (lentToSolve (a .0 .n) (a .0 .capacity) (a .0 .counter) (now (a .1 .0)) (now (a .1 .1 .0)))
+    (lentToSolve (r .state .n) (r .state .capacity) (r .state .counter) (now (s .1 .0)) (now (a .1 .1 .0))) (answerOf (r .answer)) (now (s .1 .1 .1 .0)) 0
 transposed-event κs a r s h = h

@@ -40,18 +40,18 @@ removeAnswerOf (remove.Refused r) = refusalOf r
 
 -- ---- adoption
 
--- the state that is handed back, its dimension and capacity, or the refusal
+-- the state that is handed back, its dimension, capacity and counter, or the refusal
 pub data AdoptionAnswer : Type 0 where
-  adopted : ℕ → ℕ → AdoptionAnswer
+  adopted : ℕ → ℕ → ℕ → AdoptionAnswer
   notAdopted : machine.Answer → AdoptionAnswer
 
 abbrev pub adoptionOf : Adoption → AdoptionAnswer
-adoptionOf (adoption.Adopted s) = adopted (s .n) (s .capacity)
+adoptionOf (adoption.Adopted s) = adopted (s .n) (s .capacity) (s .counter)
 adoptionOf (adoption.Refused r) = notAdopted (refusalOf r)
 
--- Adopting a dimension, a capacity and storage, under their refusal
+-- Adopting a dimension, a capacity and storage, under their refusal; the counter is 0 at adoption
 abbrev pub adoptedUnder : Option machine.Answer → ℕ → ℕ → AdoptionAnswer
-adoptedUnder none n c = adopted n c
+adoptedUnder none n c = adopted n c 0
 adoptedUnder (some a) n c = notAdopted a
 
 -- ---- readiness

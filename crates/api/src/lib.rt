@@ -1,20 +1,24 @@
-// The managed interface: a dimension and a capacity by value, and storage lent to each call.
+// The managed interface: a dimension, a capacity and a counter by value, and storage lent to each call.
 ghost use mathlib.Core.Path.{_≡_};
 ghost use mathlib.Core.Bool.{cond};
 ghost use mathlib.Core.List.{[]};
 ghost use mathlib.Core.Option.{none, some};
+ghost use Prim.Native.Nat.{_+_};
 ghost use lib.Dec.{eqb};
 ghost use lib.ListN.{length};
 ghost use lib.Ieee.{binary64};
 ghost use Rattle.numbers.specs.NumberForm.{ieee};
 ghost use Rattle.machine.specs.Solves.{diagonals};
 ghost use Rattle.machine.specs.Calls as calls;
+ghost use Rattle.machine.specs.Counter.{capped};
 ghost use Rattle.storage.specs.Views.{viewU};
 ghost use Rattle.storage.specs.Lengths as lengths;
 ghost use Rattle.managed.specs.Instance.{instance, lentToSolve};
 ghost use Rattle.managed.specs.Refusals.{storageTests};
+ghost use Rattle.refusals.specs.Refusal.{refusalOf};
 ghost use Rattle.api.specs.Answers.{adoptionOf, adoptedUnder, readinessOf, readyUnder, answerOf, movedRowOf, movedColumnOf, removeAnswerOf};
 ghost use Rattle.api.specs.Demands.{ManagedOutcome};
+use counter::added;
 use diagonals::Diagonal;
 use diagonals::test_diagonal;
 use numerics::tolerance::managed;
@@ -30,11 +34,13 @@ use solves::solve;
 use solves::solve_transposed;
 use storage::RequiredLengths;
 use storage::storage_lengths;
+use update_column::replace_column;
 
-// The dimension and the capacity of factors whose storage the caller keeps.
+// The dimension and the capacity of factors whose storage the caller keeps, and the counter of the pair steps that their updates made.
 pub struct LuMod {
     pub n: usize,
     pub capacity: usize,
+    pub counter: usize,
 }
 
 // The index of a row of the matrix.
@@ -73,16 +79,47 @@ pub enum RemoveAnswer {
     Refused(Refusal),
 }
 
-// What a call hands back: the state for the next call, and its answer.
+// What a solve hands back: the state for the next call, and its answer.
 pub struct CallResult {
     pub state: LuMod,
     pub answer: Answer,
+}
+
+// The same of an update, remove apart, with how many pair steps it made: 0 where it was refused.
+pub struct UpdateResult {
+    pub state: LuMod,
+    pub answer: Answer,
+    pub steps: usize,
 }
 
 // The same of remove.
 pub struct RemoveResult {
     pub state: LuMod,
     pub answer: RemoveAnswer,
+    pub steps: usize,
+}
+
+// What a refused update hands back.
+fn refused(state: LuMod, refusal: Refusal) -> UpdateResult
+    ensures { λ r. ⌜ (r .state ≡ state) × ((answerOf (r .answer) ≡ refusalOf refusal) × (r .steps ≡ 0)) ⌝ }
+{
+    UpdateResult {
+        state,
+        answer: Answer::Refused(refusal),
+        steps: 0,
+    }
+}
+
+// The state after an update that made so many pair steps.
+fn updated(n: usize, capacity: usize, counter: usize, steps: usize) -> LuMod
+    ensures { λ r. ⌜ (r .n ≡ n) × ((r .capacity ≡ capacity) × (r .counter ≡ capped (counter + steps))) ⌝ }
+{
+    let counter = added(counter, steps);
+    LuMod {
+        n,
+        capacity,
+        counter,
+    }
 }
 
 // The last row moves, where it is not itself the one that is removed.
@@ -133,7 +170,7 @@ pub enum Readiness {
 // Every call tests the storage that it is lent (InvalidDimension, SizeOverflow, InsufficientStorage), an update then its workspaces, which have one length
 // (InsufficientStorage), and then what its comment names, in that order. A refused call writes nothing and hands the state back as it was. An update leaves
 // the workspaces from the larger dimension on, and what lies outside the active entries, as they were. Scratch are the workspaces' entries below, and the row
-// and the column that remove drops.
+// and the column that remove drops. It hands back how many pair steps it made, added to the counter up to 999,999; a larger counter counts as that.
 impl LuMod {
     // The lengths of L and U that a capacity needs. SizeOverflow where capacity + 1 or L's length exceeds usize.
     pub fn storage_lengths(capacity: usize) -> RequiredLengths
@@ -152,6 +189,7 @@ impl LuMod {
             Test::Passed => Adoption::Adopted(LuMod {
                 n: dimension,
                 capacity,
+                counter: 0,
             }),
             Test::Refused(refusal) => Adoption::Refused(refusal),
         }
@@ -201,9 +239,9 @@ impl LuMod {
         row: &[f64],
         column: &[f64],
         diagonal: f64,
-    ) -> CallResult
-        ensures { λ r. ⌜ ManagedOutcome (calls.push (now (row .entry)) (now (column .entry)) diagonal) (instance (self .n) (self .capacity) (now (l .entry)) (now (u .entry)) (now (y .entry)) (now (z .entry)) (now (w .entry)))
-            (instance (r .state .n) (r .state .capacity) (now (l .exit)) (now (u .exit)) (now (y .exit)) (now (z .exit)) (now (w .exit))) (answerOf (r .answer)) [] ⌝ }
+    ) -> UpdateResult
+        ensures { λ r. ⌜ ManagedOutcome (calls.push (now (row .entry)) (now (column .entry)) diagonal) (instance (self .n) (self .capacity) (self .counter) (now (l .entry)) (now (u .entry)) (now (y .entry)) (now (z .entry)) (now (w .entry)))
+            (instance (r .state .n) (r .state .capacity) (r .state .counter) (now (l .exit)) (now (u .exit)) (now (y .exit)) (now (z .exit)) (now (w .exit))) (answerOf (r .answer)) [] (r .steps) ⌝ }
     {
         let n = self.n;
         let capacity = self.capacity;
@@ -216,15 +254,13 @@ impl LuMod {
         };
         let test = test_push(n, capacity, lent, row.len(), column.len());
         if let Test::Refused(refusal) = test {
-            return CallResult {
-                state: self,
-                answer: Answer::Refused(refusal),
-            };
+            return refused(self, refusal);
         }
-        copied_data::push(n, capacity, l, u, y, w, row, column, diagonal);
-        CallResult {
-            state: LuMod { n: n + 1, capacity },
+        let steps = copied_data::push(n, capacity, l, u, y, w, row, column, diagonal);
+        UpdateResult {
+            state: updated(n + 1, capacity, self.counter, steps),
             answer: Answer::Done,
+            steps,
         }
     }
 
@@ -239,9 +275,9 @@ impl LuMod {
         w: &mut [f64],
         row: RowIndex,
         values: &[f64],
-    ) -> CallResult
-        ensures { λ r. ⌜ ManagedOutcome (calls.replaceRow (row .0) (now (values .entry))) (instance (self .n) (self .capacity) (now (l .entry)) (now (u .entry)) (now (y .entry)) (now (z .entry)) (now (w .entry)))
-            (instance (r .state .n) (r .state .capacity) (now (l .exit)) (now (u .exit)) (now (y .exit)) (now (z .exit)) (now (w .exit))) (answerOf (r .answer)) [] ⌝ }
+    ) -> UpdateResult
+        ensures { λ r. ⌜ ManagedOutcome (calls.replaceRow (row .0) (now (values .entry))) (instance (self .n) (self .capacity) (self .counter) (now (l .entry)) (now (u .entry)) (now (y .entry)) (now (z .entry)) (now (w .entry)))
+            (instance (r .state .n) (r .state .capacity) (r .state .counter) (now (l .exit)) (now (u .exit)) (now (y .exit)) (now (z .exit)) (now (w .exit))) (answerOf (r .answer)) [] (r .steps) ⌝ }
     {
         let n = self.n;
         let capacity = self.capacity;
@@ -255,15 +291,13 @@ impl LuMod {
         let outside = Refusal::RowOutOfBounds;
         let test = test_replacement(n, capacity, lent, row.0, outside, values.len());
         if let Test::Refused(refusal) = test {
-            return CallResult {
-                state: self,
-                answer: Answer::Refused(refusal),
-            };
+            return refused(self, refusal);
         }
-        copied_data::replace_row(row.0, n, capacity, l, u, y, z, w, values);
-        CallResult {
-            state: self,
+        let steps = copied_data::replace_row(row.0, n, capacity, l, u, y, z, w, values);
+        UpdateResult {
+            state: updated(n, capacity, self.counter, steps),
             answer: Answer::Done,
+            steps,
         }
     }
 
@@ -278,9 +312,9 @@ impl LuMod {
         w: &mut [f64],
         column: ColumnIndex,
         values: &[f64],
-    ) -> CallResult
-        ensures { λ r. ⌜ ManagedOutcome (calls.replaceColumn (column .0) (now (values .entry))) (instance (self .n) (self .capacity) (now (l .entry)) (now (u .entry)) (now (y .entry)) (now (z .entry)) (now (w .entry)))
-            (instance (r .state .n) (r .state .capacity) (now (l .exit)) (now (u .exit)) (now (y .exit)) (now (z .exit)) (now (w .exit))) (answerOf (r .answer)) [] ⌝ }
+    ) -> UpdateResult
+        ensures { λ r. ⌜ ManagedOutcome (calls.replaceColumn (column .0) (now (values .entry))) (instance (self .n) (self .capacity) (self .counter) (now (l .entry)) (now (u .entry)) (now (y .entry)) (now (z .entry)) (now (w .entry)))
+            (instance (r .state .n) (r .state .capacity) (r .state .counter) (now (l .exit)) (now (u .exit)) (now (y .exit)) (now (z .exit)) (now (w .exit))) (answerOf (r .answer)) [] (r .steps) ⌝ }
     {
         let n = self.n;
         let capacity = self.capacity;
@@ -294,15 +328,13 @@ impl LuMod {
         let outside = Refusal::ColumnOutOfBounds;
         let test = test_replacement(n, capacity, lent, column.0, outside, values.len());
         if let Test::Refused(refusal) = test {
-            return CallResult {
-                state: self,
-                answer: Answer::Refused(refusal),
-            };
+            return refused(self, refusal);
         }
-        update_column::replace_column(column.0, n, capacity, l, u, y, values, w, managed());
-        CallResult {
-            state: self,
+        let steps = replace_column(column.0, n, capacity, l, u, y, values, w, managed());
+        UpdateResult {
+            state: updated(n, capacity, self.counter, steps),
             answer: Answer::Done,
+            steps,
         }
     }
 
@@ -319,8 +351,8 @@ impl LuMod {
         row: RowIndex,
         column: ColumnIndex,
     ) -> RemoveResult
-        ensures { λ r. ⌜ ManagedOutcome (calls.remove (row .0) (column .0)) (instance (self .n) (self .capacity) (now (l .entry)) (now (u .entry)) (now (y .entry)) (now (z .entry)) (now (w .entry)))
-            (instance (r .state .n) (r .state .capacity) (now (l .exit)) (now (u .exit)) (now (y .exit)) (now (z .exit)) (now (w .exit))) (removeAnswerOf (r .answer)) [] ⌝ }
+        ensures { λ r. ⌜ ManagedOutcome (calls.remove (row .0) (column .0)) (instance (self .n) (self .capacity) (self .counter) (now (l .entry)) (now (u .entry)) (now (y .entry)) (now (z .entry)) (now (w .entry)))
+            (instance (r .state .n) (r .state .capacity) (r .state .counter) (now (l .exit)) (now (u .exit)) (now (y .exit)) (now (z .exit)) (now (w .exit))) (removeAnswerOf (r .answer)) [] (r .steps) ⌝ }
     {
         let n = self.n;
         let capacity = self.capacity;
@@ -336,21 +368,23 @@ impl LuMod {
             return RemoveResult {
                 state: self,
                 answer: RemoveAnswer::Refused(refusal),
+                steps: 0,
             };
         }
-        update_remove::remove(row.0, column.0, n, capacity, l, u, y, z, w, managed());
+        let steps = update_remove::remove(row.0, column.0, n, capacity, l, u, y, z, w, managed());
         let last = n - 1;
         RemoveResult {
-            state: LuMod { n: last, capacity },
+            state: updated(last, capacity, self.counter, steps),
             answer: RemoveAnswer::Removed(what_moved(row.0, column.0, last)),
+            steps,
         }
     }
 
     // Solves with the matrix in place: rhs becomes the solution. The end of L is work, below the dimension. LengthMismatch where rhs has another length than
     // the dimension; then the first diagonal of U that is zero (Singular), infinite or NaN (NonFiniteDiagonal), by its index.
     pub fn solve_in_place(self, l: &mut [f64], u: &[f64], rhs: &mut [f64]) -> CallResult
-        ensures { λ r. ⌜ ManagedOutcome (calls.solve (now (rhs .entry))) (lentToSolve (self .n) (self .capacity) (now (l .entry)) (now (u .entry)))
-            (lentToSolve (r .state .n) (r .state .capacity) (now (l .exit)) (now (u .entry))) (answerOf (r .answer)) (now (rhs .exit)) ⌝ }
+        ensures { λ r. ⌜ ManagedOutcome (calls.solve (now (rhs .entry))) (lentToSolve (self .n) (self .capacity) (self .counter) (now (l .entry)) (now (u .entry)))
+            (lentToSolve (r .state .n) (r .state .capacity) (r .state .counter) (now (l .exit)) (now (u .entry))) (answerOf (r .answer)) (now (rhs .exit)) 0 ⌝ }
     {
         let n = self.n;
         let capacity = self.capacity;
@@ -370,8 +404,8 @@ impl LuMod {
 
     // The same with the matrix transposed.
     pub fn solve_transpose_in_place(self, l: &mut [f64], u: &[f64], rhs: &mut [f64]) -> CallResult
-        ensures { λ r. ⌜ ManagedOutcome (calls.solveTransposed (now (rhs .entry))) (lentToSolve (self .n) (self .capacity) (now (l .entry)) (now (u .entry)))
-            (lentToSolve (r .state .n) (r .state .capacity) (now (l .exit)) (now (u .entry))) (answerOf (r .answer)) (now (rhs .exit)) ⌝ }
+        ensures { λ r. ⌜ ManagedOutcome (calls.solveTransposed (now (rhs .entry))) (lentToSolve (self .n) (self .capacity) (self .counter) (now (l .entry)) (now (u .entry)))
+            (lentToSolve (r .state .n) (r .state .capacity) (r .state .counter) (now (l .exit)) (now (u .entry))) (answerOf (r .answer)) (now (rhs .exit)) 0 ⌝ }
     {
         let n = self.n;
         let capacity = self.capacity;

@@ -10,7 +10,10 @@ use Rattle.numbers.specs.NumberForm.{NumberForm}
 use Rattle.machine.specs.Tables.{Vector, Work}
 use Rattle.machine.specs.Products.{entry}
 use Rattle.machine.specs.Backward.{copyRowToDense, negligible, trim, backwardRow, backwardRows}
+use Rattle.machine.specs.Agreement.{AgreeWithin}
+use Rattle.machine.specs.Counts.{backwardRowCount, backwardRowsCount}
 use Rattle.machine.proofs.Choice.{pick, out-of-range}
+use Rattle.machine.proofs.Counts.{backward-row-count-same}
 use Rattle.storage.specs.Places.{uIndex}
 use Rattle.storage.proofs.Kept.{kept-all, kept-more}
 use Rattle.ranges.specs.Written.{from, Written}
@@ -56,6 +59,21 @@ module _ (N : NumberForm) where
         let e : selected - (row - 1) ≡ suc (selected - row) = omega arith in
         let q : selected - suc (selected - row) ≡ row - 1 = omega arith in
         rw e (rw q)
+
+    pub backward-count-none : (S : Work Value) → 0 ≡ backwardRowsCount N E T selected columns (selected - selected) S
+    unfolding backwardRowsCount
+    backward-count-none S = let e : selected - selected ≡ 0 = omega arith in rw e
+
+    -- S is what the rows before have left of R
+    pub backward-count-more : (n row : ℕ) (R : Work Value) {a b : ℕ} {S : Work Value} → columns ≤ n → 0 < row → row ≤ selected → selected < n → a ≡ backwardRowsCount N E T selected columns (selected - row) R
+        → AgreeWithin n row columns n S (backwardRows N E T selected columns (selected - row) R) → b ≡ backwardRowCount N E selected (row - 1) S
+        → a + b ≡ backwardRowsCount N E T selected columns (selected - (row - 1)) R
+    unfolding backwardRowsCount
+    backward-count-more n row R hk h g hs is-a same is-b =
+        let e : selected - (row - 1) ≡ suc (selected - row) = omega arith in
+        let q : selected - suc (selected - row) ≡ row - 1 = omega arith in
+        let c = is-b ∙ backward-row-count-same N E T n columns hk selected (row - 1) row hs (omega arith) same in
+        rw e (rw q (λ t. is-a t + c t))
 
   -- ---- U's row into y
 

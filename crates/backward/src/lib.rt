@@ -8,7 +8,8 @@ ghost use Rattle.numbers.specs.Tolerances.{tinyOf};
 ghost use Rattle.machine.specs.Products.{entry};
 ghost use Rattle.machine.specs.Backward.{backwardRows};
 ghost use Rattle.machine.specs.Backward;
-ghost use Rattle.buffers.specs.Performed.{Room, Performed};
+ghost use Rattle.machine.specs.Counts.{backwardRowsCount, backwardCount};
+ghost use Rattle.buffers.specs.Performed.{workOf, Room, Performed};
 use backward_row::backward_row;
 use numerics::real::abs;
 use numerics::tolerance::Numerics;
@@ -27,7 +28,7 @@ pub fn trim(first: usize, last: usize, v: &[f64], epsilon: f64) -> usize
     selected
 }
 
-// The rows from selected - 1 down to `first`.
+// The rows from selected - 1 down to `first`. It answers how many pair steps it made.
 pub fn backward_rows(
     first: usize,
     selected: usize,
@@ -39,19 +40,24 @@ pub fn backward_rows(
     y: &mut [f64],
     v: &mut [f64],
     numerics: Numerics,
-)
+) -> usize
     requires { ⌜ Room (ieee binary64) stride n (now l) (now u) × ((columns ≤ length (now y)) × ((n ≤ length (now v)) × ((first ≤ selected) × ((selected < n) × ((selected ≤ columns) × (columns ≤ n)))))) ⌝ }
-    ensures { λ _. ⌜ Performed (ieee binary64) stride n first columns n (backwardRows (ieee binary64) (numerics .epsilon) (tinyOf binary64 (numerics .epsilon) (numerics .«update_tiny»)) selected columns (selected - first))
-        (now (l .entry)) (now (u .entry)) (now (y .entry)) (now (v .entry)) (now (l .exit)) (now (u .exit)) (now (y .exit)) (now (v .exit)) ⌝ }
+    ensures { λ r. ⌜ Performed (ieee binary64) stride n first columns n (backwardRows (ieee binary64) (numerics .epsilon) (tinyOf binary64 (numerics .epsilon) (numerics .«update_tiny»)) selected columns (selected - first))
+        (now (l .entry)) (now (u .entry)) (now (y .entry)) (now (v .entry)) (now (l .exit)) (now (u .exit)) (now (y .exit)) (now (v .exit))
+        × (r ≡ backwardRowsCount (ieee binary64) (numerics .epsilon) (tinyOf binary64 (numerics .epsilon) (numerics .«update_tiny»)) selected columns (selected - first)
+        (workOf (ieee binary64) stride (now (l .entry)) (now (u .entry)) (now (y .entry)) (now (v .entry)))) ⌝ }
 {
+    let mut steps = 0;
     let mut row = selected;
     while row > first {
         row -= 1;
-        backward_row(row, selected, n, columns, stride, l, u, y, v, numerics);
+        steps += backward_row(row, selected, n, columns, stride, l, u, y, v, numerics);
     }
+    steps
 }
 
 // U's row `selected` goes to y, from `selected` on below `columns`; then the rows from selected - 1 down to `first`.
+// It answers how many pair steps it made.
 pub fn backward(
     first: usize,
     selected: usize,
@@ -63,12 +69,14 @@ pub fn backward(
     y: &mut [f64],
     v: &mut [f64],
     numerics: Numerics,
-)
+) -> usize
     requires { ⌜ Room (ieee binary64) stride n (now l) (now u) × ((columns ≤ length (now y)) × ((n ≤ length (now v)) × ((first ≤ selected) × ((selected < n) × ((selected ≤ columns) × (columns ≤ n)))))) ⌝ }
-    ensures { λ _. ⌜ Performed (ieee binary64) stride n first columns n (Backward.backward (ieee binary64) (numerics .epsilon) (tinyOf binary64 (numerics .epsilon) (numerics .«update_tiny»)) first selected columns)
-        (now (l .entry)) (now (u .entry)) (now (y .entry)) (now (v .entry)) (now (l .exit)) (now (u .exit)) (now (y .exit)) (now (v .exit)) ⌝ }
+    ensures { λ r. ⌜ Performed (ieee binary64) stride n first columns n (Backward.backward (ieee binary64) (numerics .epsilon) (tinyOf binary64 (numerics .epsilon) (numerics .«update_tiny»)) first selected columns)
+        (now (l .entry)) (now (u .entry)) (now (y .entry)) (now (v .entry)) (now (l .exit)) (now (u .exit)) (now (y .exit)) (now (v .exit))
+        × (r ≡ backwardCount (ieee binary64) (numerics .epsilon) (tinyOf binary64 (numerics .epsilon) (numerics .«update_tiny»)) first selected columns
+        (workOf (ieee binary64) stride (now (l .entry)) (now (u .entry)) (now (y .entry)) (now (v .entry)))) ⌝ }
 {
     let diagonal = u_index(selected, selected, stride);
     copy(y, selected, u, diagonal, columns - selected);
-    backward_rows(first, selected, n, columns, stride, l, u, y, v, numerics);
+    backward_rows(first, selected, n, columns, stride, l, u, y, v, numerics)
 }

@@ -12,6 +12,7 @@ use Rattle.numbers.specs.NumberForm.{NumberForm}
 use Rattle.numbers.specs.PairStep.{Step, stepOf, pairStep, first, second}
 use Rattle.machine.specs.Products.{entry}
 use Rattle.machine.specs.Backward.{clearDense, backwardSkips, backwardTransform, backwardRow}
+use Rattle.machine.specs.Counts.{backwardRowCount}
 use Rattle.machine.proofs.Choice.{neqb→ne, pick, in-range, out-of-range}
 use Rattle.storage.specs.Places.{uIndex}
 use Rattle.storage.specs.Views.{viewU}
@@ -121,3 +122,11 @@ module _ (N : NumberForm) where
         → backwardTransform N selected columns row p (clearDense N row (workOf N c l u y v)) ≡ backwardRow N E T selected columns row (workOf N c l u y v)
     unfolding backwardRow
     backward-acts g e = rw (guard g) (λ t. backwardTransform N selected columns row (e t) (clearDense N row (workOf N c l u y v)))
+
+    pub backward-skips-counted : le b (mul E a) ≡ true → 0 ≡ backwardRowCount N E selected row (workOf N c l u y v)
+    unfolding backwardRowCount
+    backward-skips-counted g = rw (guard g)
+
+    pub backward-acts-counted : le b (mul E a) ≡ false → 1 ≡ backwardRowCount N E selected row (workOf N c l u y v)
+    unfolding backwardRowCount
+    backward-acts-counted g = rw (guard g)

@@ -9,6 +9,7 @@ use api::MovedColumn;
 use api::MovedRow;
 use api::Removal;
 use api::RemoveAnswer;
+use api::RemoveResult;
 use api::RowIndex;
 use refusals::Refusal;
 
@@ -19,7 +20,7 @@ struct Factors {
     u: [f64; 3],
 }
 
-// Pushes, with workspaces of its own.
+// Pushes, with workspaces of its own. The counter of the state that is handed back is what the pushes made so far.
 fn push(
     state: LuMod,
     l: &mut [f64; 6],
@@ -40,7 +41,11 @@ fn push_first(diagonal: f64) -> Factors {
     let mut l = [0.0; 6];
     let mut u = [0.0; 3];
     let none = [0.0; 0];
-    let empty = LuMod { n: 0, capacity: 2 };
+    let empty = LuMod {
+        n: 0,
+        capacity: 2,
+        counter: 0,
+    };
     let state = push(empty, &mut l, &mut u, &none, &none, diagonal);
     Factors { state, l, u }
 }
@@ -81,6 +86,12 @@ fn u_entries(u: &[f64; 3]) {
     double(u[0]);
     next(u[1]);
     next(u[2]);
+}
+
+// How many pair steps were made, at the end of a line.
+fn pair_steps(steps: usize) {
+    text(b"; pair steps ");
+    number(steps);
     text(b"\n");
 }
 
@@ -103,21 +114,24 @@ pub fn p() {
     let p = make_p();
     let l = p.l;
     let u = p.u;
+    let state = p.state;
     text(b"P");
     l_entries(&l);
     u_entries(&u);
+    pair_steps(state.counter);
 }
 
-// Replaces column 0 or row 0, with workspaces of its own.
-fn replace(p: LuMod, is_column: bool, l: &mut [f64; 6], u: &mut [f64; 3], values: &[f64]) {
+// Replaces column 0 or row 0, with workspaces of its own, and answers how many pair steps that took.
+fn replace(p: LuMod, is_column: bool, l: &mut [f64; 6], u: &mut [f64; 3], values: &[f64]) -> usize {
     let mut y = [0.0; 2];
     let mut z = [0.0; 2];
     let mut w = [0.0; 2];
     if is_column {
-        p.replace_column(l, u, &mut y, &mut z, &mut w, ColumnIndex(0), values);
-        return;
+        let result = p.replace_column(l, u, &mut y, &mut z, &mut w, ColumnIndex(0), values);
+        return result.steps;
     }
-    p.replace_row(l, u, &mut y, &mut z, &mut w, RowIndex(0), values);
+    let result = p.replace_row(l, u, &mut y, &mut z, &mut w, RowIndex(0), values);
+    result.steps
 }
 
 // By what column 0 or row 0 is replaced, and L and U then.
@@ -127,10 +141,11 @@ pub fn replaced(is_column: bool, first: f64, second: f64) {
     let mut u = p.u;
     let mut values = [first; 2];
     values[1] = second;
-    replace(p.state, is_column, &mut l, &mut u, &values);
+    let steps = replace(p.state, is_column, &mut l, &mut u, &values);
     pair(first, second);
     l_entries(&l);
     u_entries(&u);
+    pair_steps(steps);
 }
 
 fn moved(removal: Removal) {
@@ -147,19 +162,19 @@ fn moved(removal: Removal) {
 }
 
 // Removes row 1 and column 1, with workspaces of its own.
-fn remove(p: LuMod, l: &mut [f64; 6], u: &mut [f64; 3]) -> RemoveAnswer {
+fn remove(p: LuMod, l: &mut [f64; 6], u: &mut [f64; 3]) -> RemoveResult {
     let mut y = [0.0; 2];
     let mut z = [0.0; 2];
     let mut w = [0.0; 2];
-    let result = p.remove(l, u, &mut y, &mut z, &mut w, RowIndex(1), ColumnIndex(1));
-    result.answer
+    p.remove(l, u, &mut y, &mut z, &mut w, RowIndex(1), ColumnIndex(1))
 }
 
 pub fn removed() {
     let p = make_p();
     let mut l = p.l;
     let mut u = p.u;
-    let answer = remove(p.state, &mut l, &mut u);
+    let result = remove(p.state, &mut l, &mut u);
+    let answer = result.answer;
     text(b"P, remove 1, 1: L ");
     double(l[0]);
     text(b", U ");
@@ -168,7 +183,7 @@ pub fn removed() {
         RemoveAnswer::Removed(removal) => moved(removal),
         RemoveAnswer::Refused(found) => refusal(found),
     }
-    text(b"\n");
+    pair_steps(result.steps);
 }
 
 // Solves or transpose solves.

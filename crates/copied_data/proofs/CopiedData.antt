@@ -12,8 +12,10 @@ use Rattle.machine.specs.Tables.{Table, Work, stateOf}
 use Rattle.machine.specs.Products.{entry}
 use Rattle.machine.specs.Updates.{pushed, rowReplaced}
 use Rattle.machine.specs.Agreement.{Agree}
+use Rattle.machine.specs.Counts.{pushedCount, rowReplacedCount}
 use Rattle.machine.proofs.Choice.{agree-trans, within-state}
 use Rattle.machine.proofs.Updates.{pushed-same, row-replaced-same}
+use Rattle.machine.proofs.Counts.{pushed-count-same, row-replaced-count-same}
 use Rattle.storage.specs.Views.{Kept}
 use Rattle.storage.proofs.Kept.{kept-set, kept-then, kept-more}
 use Rattle.ranges.specs.Written.{from, Written}
@@ -41,25 +43,33 @@ module _ (N : NumberForm) where
     copied-kept : (m : ℕ) → n ≤ m → Kept N (λ q. q < m) y y₁
     copied-kept m h = kept-more N (λ q a. omega arith) (copied .kept)
 
-module _ (N : NumberForm) (E T : N .Value) (n c : ℕ) (L U : Table (N .Value)) {l u y y₁ z w l′ u′ y′ z′ w′ : List (N .Value)} where
+-- the factors, and how many pair steps they took
+module _ (N : NumberForm) (E T : N .Value) (n c : ℕ) (L U : Table (N .Value)) {l u y y₁ z w l′ u′ y′ z′ w′ : List (N .Value)} {a : ℕ} where
   open NumberForm N using (Value, absent)
 
   -- a row, and the diagonal behind it
   pub push-of-copy : (row column : List Value) (d : Value) → Written N (from 0) n (λ k. entry N row (0 + k)) y y₁ → n < length y₁
       → Updated N c (n + 1) (n + 1) (pushed N E T (n + 1 - 1) L U (set y₁ n d) column (entry N (set y₁ n d) (n + 1 - 1))) l u (set y₁ n d) z w l′ u′ y′ z′ w′
-      → Updated N c (n + 1) (n + 1) (pushed N E T n L U row column d) l u y z w l′ u′ y′ z′ w′
+      × (a ≡ pushedCount N E T (n + 1 - 1) L U (set y₁ n d) column (entry N (set y₁ n d) (n + 1 - 1)))
+      → Updated N c (n + 1) (n + 1) (pushed N E T n L U row column d) l u y z w l′ u′ y′ z′ w′ × (a ≡ pushedCount N E T n L U row column d)
   push-of-copy row column d copied h update =
       let less : n + 1 - 1 ≡ n = omega arith in
-      copied-before N c (n + 1) (n + 1)
-      (rw add-one (within-state (suc n) (omega arith) (pushed-same N E T n L U L U (λ i j a b. refl) (λ i j a b. refl)
-      (set y₁ n d) row column column d (λ j k. getD-set-other y₁ n j d absent (omega arith) ∙ copied-at N n row copied j k) (λ j k. refl))))
-      (kept-then N (copied-kept N n row copied (n + 1) (omega arith)) (kept-set N y₁ n d (omega arith)))
-      (rw (getD-set-same y₁ n d absent h) at (rw less at update))
+      let same : (j : ℕ) → j < n → entry N (set y₁ n d) j ≡ entry N row j = λ j k. getD-set-other y₁ n j d absent (omega arith) ∙ copied-at N n row copied j k in
+      let own = rw (getD-set-same y₁ n d absent h) at (rw less at update) in (
+        copied-before N c (n + 1) (n + 1)
+            (rw add-one (within-state (suc n) (omega arith) (pushed-same N E T n L U L U (λ i j a b. refl) (λ i j a b. refl) (set y₁ n d) row column column d same (λ j k. refl))))
+            (kept-then N (copied-kept N n row copied (n + 1) (omega arith)) (kept-set N y₁ n d (omega arith)))
+            (own .0),
+        own .1 ∙ pushed-count-same N E T n L U L U (λ i j a b. refl) (λ i j a b. refl) (set y₁ n d) row column column d same (λ j k. refl),
+      )
 
   -- the values of a row
   pub row-of-copy : (row : ℕ) (values : List Value) → Written N (from 0) n (λ k. entry N values (0 + k)) y y₁ → row < n
-      → Updated N c n n (rowReplaced N E T n L U row y₁) l u y₁ z w l′ u′ y′ z′ w′ → Updated N c n n (rowReplaced N E T n L U row values) l u y z w l′ u′ y′ z′ w′
-  row-of-copy row values copied h update =
-      copied-before N c n n
-      (within-state n (omega arith) (row-replaced-same N E T n L U L U (λ i j a b. refl) (λ i j a b. refl) row y₁ values h (copied-at N n values copied)))
-      (copied-kept N n values copied n (omega arith)) update
+      → Updated N c n n (rowReplaced N E T n L U row y₁) l u y₁ z w l′ u′ y′ z′ w′ × (a ≡ rowReplacedCount N E T n L U row y₁)
+      → Updated N c n n (rowReplaced N E T n L U row values) l u y z w l′ u′ y′ z′ w′ × (a ≡ rowReplacedCount N E T n L U row values)
+  row-of-copy row values copied h update = (
+    copied-before N c n n
+        (within-state n (omega arith) (row-replaced-same N E T n L U L U (λ i j a b. refl) (λ i j a b. refl) row y₁ values h (copied-at N n values copied)))
+        (copied-kept N n values copied n (omega arith)) (update .0),
+    update .1 ∙ row-replaced-count-same N E T n L U L U (λ i j a b. refl) (λ i j a b. refl) row y₁ values h (copied-at N n values copied),
+  )

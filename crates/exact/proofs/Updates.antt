@@ -9,10 +9,10 @@ use lib.Dec.{ltb, eqb}
 use borrow.Author.Tests.{ltb-true, ltb-false, eqb-true, lt-ltb, le-ltb, le-leb, lt-leb, eq-eqb, ne-eqb}
 use Rattle.numbers.specs.NumberForm.{NumberForm}
 use Rattle.machine.specs.Tables.{Vector, Table, Work, put}
-use Rattle.machine.specs.Products.{entry, unset, sum, product}
+use Rattle.machine.specs.Products.{entry, sum, product}
 use Rattle.machine.specs.Backward.{trim, backward}
 use Rattle.machine.specs.Calls.{Call, push, replaceRow, replaceColumn, remove}
-use Rattle.machine.specs.Updates.{putColumn, putSelected, columnCopied, bordered, columnCleared, unitRow, restoredFrom, restored, pushed, columnReplaced, rowReplacedFrom, rowReplaced, columnDropped, removed}
+use Rattle.machine.specs.Updates.{putColumn, putSelected, columnCopied, bordered, columnCleared, columnProduct, lastColumnRead, columnTaken, columnMoved, unitRow, restoredFrom, restored, pushed, columnReplaced, rowReplacedFrom, rowReplaced, columnDropped, removed}
 use Rattle.machine.proofs.Backward.{trim-le, trim-ge}
 use Rattle.exact.specs.Matrix.{updated}
 use Rattle.exact.proofs.Ring.{tested, equal-or-not, below-or-not, CommutativeRing, columnOf, withColumn, zero-mul, mul-zero, Σ, Σ-same, Σ-except, Σ-unit, image, Factorization, factorization-same, right-same, column-in, empty-factorization, zero-vector}
@@ -152,7 +152,7 @@ module _ {N : NumberForm} (Λ : ExactLaws N) where
     pub column-replaced-kept : Invariant n n (next n A (replaceColumn k column)) (columnReplaced N 𝟘 𝟘 n L U k column .L) (columnReplaced N 𝟘 𝟘 n L U k column .U)
     unfolding columnReplaced
     column-replaced-kept =
-        let S₀ : Work Value = record { L = L; U = U; y = unset N; v = product N n L (entry N column) } in
+        let S₀ = columnProduct N n L U column in
         tested (ltb (suc k) n)
         (λ t. let l = ltb-true (suc k) n t in rw t (restored-kept n n k (n - 1) (omega arith) (omega arith) _ S₀ replaced))
         (λ t. let l = ltb-false (suc k) n t in rw t (unfold putColumn in (right-same ring
@@ -171,7 +171,7 @@ module _ {N : NumberForm} (Λ : ExactLaws N) where
     column-dropped-kept : Invariant (suc p) p A₁ (columnDropped N 𝟘 𝟘 p L U k .L) (columnDropped N 𝟘 𝟘 p L U k .U)
     unfolding columnDropped
     column-dropped-kept =
-        let S₀ : Work Value = record { L = L; U = U; y = unset N; v = λ i. U i p } in
+        let S₀ = lastColumnRead N p L U in
         tested (ltb k p)
         (λ t. rw t (restored-kept (suc p) p k p refl (ltb-true k p t) _ S₀ dropped))
         (λ t. let l = ltb-false k p t in rw t (right-same ring (λ i j hi hj. rw (ne-eqb j k (omega arith))) dropped))
@@ -196,7 +196,7 @@ module _ {N : NumberForm} (Λ : ExactLaws N) where
 
   module _ (p r : ℕ) (L U : Table Value) (A : Table F) (hr : r ≤ p) (h : Factorization ring (suc p) p A (values Λ L) (triangle Λ U)) where
     C₀ : Work Value
-    C₀ = record { L = columnCopied p r L; U = U; y = unset N; v = λ i. L i r }
+    C₀ = columnMoved N p r L U
 
     C : Work Value
     C = backward N 𝟘 𝟘 0 p p C₀
@@ -281,7 +281,7 @@ module _ {N : NumberForm} (Λ : ExactLaws N) where
     σ-le = trim-le N 𝟘 0 (n - 1) (λ i. L i r)
 
     D₀ : Work Value
-    D₀ = record { L = columnCleared N r L; U = U; y = unset N; v = λ i. L i r }
+    D₀ = columnTaken N r L U
 
     D : Work Value
     D = backward N 𝟘 𝟘 0 σ n D₀

@@ -10,7 +10,10 @@ use Rattle.numbers.specs.NumberForm.{NumberForm}
 use Rattle.machine.specs.Tables.{Work}
 use Rattle.machine.specs.Products.{entry}
 use Rattle.machine.specs.Forward.{copyDenseToRow, forwardRow, forwardRows}
+use Rattle.machine.specs.Agreement.{AgreeWithin}
+use Rattle.machine.specs.Counts.{forwardRowCount, forwardRowsCount}
 use Rattle.machine.proofs.Choice.{pick, in-range}
+use Rattle.machine.proofs.Counts.{forward-row-count-same}
 use Rattle.storage.specs.Places.{uIndex}
 use Rattle.storage.specs.Views.{viewU}
 use Rattle.storage.proofs.Kept.{kept-all, kept-more}
@@ -35,6 +38,20 @@ module _ (N : NumberForm) where
         let e : row + 1 - start ≡ suc (row - start) = omega arith in
         let q : start + (row - start) ≡ row = omega arith in
         rw e (rw q)
+
+    pub forward-count-none : (S : Work Value) → 0 ≡ forwardRowsCount N E T start last columns (start - start) S
+    unfolding forwardRowsCount
+    forward-count-none S = let e : start - start ≡ 0 = omega arith in rw e
+
+    -- S is what the rows before have left of R
+    pub forward-count-more : (n row : ℕ) (R : Work Value) {a b : ℕ} {S : Work Value} → columns ≤ n → start ≤ row → row < columns → a ≡ forwardRowsCount N E T start last columns (row - start) R
+        → AgreeWithin n 0 columns 0 S (forwardRows N E T start last columns (row - start) R) → b ≡ forwardRowCount N E row S → a + b ≡ forwardRowsCount N E T start last columns (row + 1 - start) R
+    unfolding forwardRowsCount
+    forward-count-more n row R hk h hr is-a same is-b =
+        let e : row + 1 - start ≡ suc (row - start) = omega arith in
+        let q : start + (row - start) ≡ row = omega arith in
+        let c = is-b ∙ forward-row-count-same N E T n columns 0 hk row 0 (omega arith) hr same in
+        rw e (rw q (λ t. is-a t + c t))
 
   -- ---- y into U's row
 

@@ -13,6 +13,7 @@ use Rattle.numbers.specs.NumberForm.{NumberForm}
 use Rattle.numbers.specs.PairStep.{Step, stepOf, pairStep, first, second}
 use Rattle.machine.specs.Products.{entry}
 use Rattle.machine.specs.Forward.{forwardActs, forwardTransform, forwardRow}
+use Rattle.machine.specs.Counts.{forwardRowCount}
 use Rattle.machine.proofs.Choice.{neqb→ne, pick, in-range-after, out-of-range-after}
 use Rattle.storage.specs.Places.{uIndex}
 use Rattle.storage.specs.Views.{viewU}
@@ -131,3 +132,11 @@ module _ (N : NumberForm) where
     pub forward-passes : lt (mul E a) b ≡ false → workOf N c l u y [] ≡ forwardRow N E T last columns row (workOf N c l u y [])
     unfolding forwardRow
     forward-passes g = rw (guard g)
+
+    pub forward-acts-counted : lt (mul E a) b ≡ true → 1 ≡ forwardRowCount N E row (workOf N c l u y [])
+    unfolding forwardRowCount
+    forward-acts-counted g = rw (guard g)
+
+    pub forward-passes-counted : lt (mul E a) b ≡ false → 0 ≡ forwardRowCount N E row (workOf N c l u y [])
+    unfolding forwardRowCount
+    forward-passes-counted g = rw (guard g)

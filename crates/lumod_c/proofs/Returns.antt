@@ -1,15 +1,17 @@
 -- From the outcome of a managed call to what it returns to a C host, which keeps the capacity, and the dimension where no call changes it.
 use mathlib.Core.Path.{_≡_, refl, ap, subst}
+use mathlib.Core.Bool.{false}
 use mathlib.Core.List.{List}
 use mathlib.Core.Option.{Option, none, some}
 use Prim.Native.Nat.{ℕ}
 use lib.Ieee.{Float, binary64}
 use Rattle.numbers.specs.NumberForm.{ieee}
 use Rattle.numbers.specs.Tolerances.{managedEpsilon, managedTiny}
-use Rattle.machine.specs.Calls.{Call, replaceRow, replaceColumn, solve, solveTransposed, Answer, numberOf, refusalNumber}
+use Rattle.machine.specs.Calls.{Call, replaceRow, replaceColumn, solve, solveTransposed, Answer, numberOf, refusalNumber, isUpdate}
 use Rattle.machine.specs.Machine.{accepted}
 use Rattle.managed.specs.Instance.{Instance, instance, view}
 use Rattle.managed.proofs.Outcomes.{dimension-stays}
+use Rattle.managed.proofs.Counted.{withCounter, solve-at-any}
 use Rattle.api.specs.Answers.{AdoptionAnswer, adopted, notAdopted, adoptedUnder}
 use Rattle.api.specs.Demands.{ManagedOutcome}
 use Rattle.lumod_c.specs.Managed.{Returned}
@@ -34,24 +36,31 @@ pub transposed-stays : (rhs : List Float) (s : Instance Float) → Stays (solveT
 unfolding accepted
 transposed-stays rhs s = refl
 
-module _ (c : Call Float) (s : Instance Float) {n c′ number : ℕ} {l u y z w b : List Float} {a : Answer} {Out : Answer → Type 0}
-    (o : ManagedOutcome c s (instance n c′ l u y z w) a b) (is-number : number ≡ numberOf a) (out : Out a) where
-  pub returned : Returned c s (instance n (s .c) l u y z w) b Out number
+module _ (c : Call Float) (s : Instance Float) {n c′ counter k number : ℕ} {l u y z w b : List Float} {a : Answer} {Out : Answer → Type 0}
+    (o : ManagedOutcome c s (instance n c′ counter l u y z w) a b k) (is-number : number ≡ numberOf a) (out : Out a) where
+  pub returned : Returned c s (instance n (s .c) counter l u y z w) b k Out number
   returned = record {
     answer = a;
-    outcome = subst (λ (k : ℕ). ManagedOutcome c s (instance n k l u y z w) a b) (o .capacity) o;
+    outcome = subst (λ (q : ℕ). ManagedOutcome c s (instance n q counter l u y z w) a b k) (o .capacity) o;
     is-number = is-number;
     out = out;
   }
 
-  pub returned-staying : Stays c s → Returned c s (instance (s .n) (s .c) l u y z w) b Out number
+  pub returned-staying : Stays c s → Returned c s (instance (s .n) (s .c) counter l u y z w) b k Out number
   returned-staying e =
-      subst (λ (k : ℕ). Returned c s (instance k (s .c) l u y z w) b Out number)
+      subst (λ (m : ℕ). Returned c s (instance m (s .c) counter l u y z w) b k Out number)
       (dimension-stays (ieee binary64) (managedEpsilon binary64) (managedTiny binary64) e o) returned
+
+-- a solve, at whatever counter the host keeps
+pub returned-solved : (c : Call Float) (s : Instance Float) {n c′ counter k number : ℕ} {l u y z w b : List Float} {a : Answer} {Out : Answer → Type 0}
+    → ManagedOutcome c s (instance n c′ counter l u y z w) a b k → number ≡ numberOf a → Out a → Stays c s → isUpdate c ≡ false
+    → (m : ℕ) → Returned c (withCounter m s) (instance (s .n) (s .c) m l u y z w) b k Out number
+returned-solved c s o is-number out e solves m =
+    returned-staying c (withCounter m s) (solve-at-any (ieee binary64) (managedEpsilon binary64) (managedTiny binary64) o solves m) is-number out e
 
 -- the number of an adoption
 abbrev pub adoptionNumber : AdoptionAnswer → ℕ
-adoptionNumber (adopted n c) = 0
+adoptionNumber (adopted n c counter) = 0
 adoptionNumber (notAdopted a) = numberOf a
 
 pub adoption-number : {p : AdoptionAnswer} (o : Option Answer) (n c : ℕ) → p ≡ adoptedUnder o n c → adoptionNumber p ≡ refusalNumber o

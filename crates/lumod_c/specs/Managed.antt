@@ -10,12 +10,16 @@ use Rattle.managed.specs.Instance.{Instance}
 use Rattle.api.specs.Answers.{ReadyAnswer, answered, notAnswered}
 use Rattle.api.specs.Demands.{ManagedOutcome}
 
--- A call returns the number of its answer; `Out` says what that answer leaves in the out-parameters.
-pub record Returned (c : Call Float) (s t : Instance Float) (b : List Float) (Out : Answer → Type 0) (number : ℕ) : Type 0 where
+-- A call returns the number of its answer; k is how many pair steps it made, and `Out` says what its answer leaves in the out-parameters.
+pub record Returned (c : Call Float) (s t : Instance Float) (b : List Float) (k : ℕ) (Out : Answer → Type 0) (number : ℕ) : Type 0 where
   pub answer : Answer
-  pub outcome : ManagedOutcome c s t answer b
+  pub outcome : ManagedOutcome c s t answer b k
   pub is-number : number ≡ numberOf answer
   pub out : Out answer
+
+-- A solve is handed no counter and makes no pair steps: this holds at every counter that the host keeps.
+abbrev pub SolveReturned : Call Float → (ℕ → Instance Float) → (ℕ → Instance Float) → List Float → (Answer → Type 0) → ℕ → Type 0
+SolveReturned c s t b Out number = (counter : ℕ) → Returned c (s counter) (t counter) b 0 Out number
 
 -- the calls without an out-parameter of their own
 abbrev pub NoOut : Answer → Type 0

@@ -47,7 +47,7 @@ module _ (N : NumberForm) (E : N .Value) where
 module _ (N : NumberForm) (E T : N .Value) (m columns : ℕ) (hc : columns ≤ m) where
   open NumberForm N using (Value, zero as 𝟎)
 
-  copy-row-same : (selected lo : ℕ) {S R : Work Value} → AgreeWithin m lo columns m S R
+  pub copy-row-same : (selected lo : ℕ) {S R : Work Value} → AgreeWithin m lo columns m S R
       → AgreeWithin m selected columns m (copyRowToDense selected columns S) (copyRowToDense selected columns R)
   unfolding copyRowToDense
   copy-row-same selected lo h = record {

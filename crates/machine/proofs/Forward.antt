@@ -50,7 +50,7 @@ module _ (N : NumberForm) (E T : N .Value) (m columns k : ℕ) (hc : columns ≤
       let x : S .y row ≡ R .y row = h .y row ho hr in
       within-cond _ _ (λ t. forwardActs N E (u t) (x t)) (forward-transform-same last row lo (λ t. pairStep N T (u t) (x t)) hl ho hr h) h
 
-  forward-rows-same : (start last d : ℕ) {S R : Work Value} → last < m → last ≤ columns → d ≤ last - start → AgreeWithin m start columns k S R
+  pub forward-rows-same : (start last d : ℕ) {S R : Work Value} → last < m → last ≤ columns → d ≤ last - start → AgreeWithin m start columns k S R
       → AgreeWithin m start columns k (forwardRows N E T start last columns d S) (forwardRows N E T start last columns d R)
   unfolding forwardRows
   forward-rows-same start last zero hl hk hr h = h

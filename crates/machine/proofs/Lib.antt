@@ -1,5 +1,5 @@
 -- Independence: nothing in the machine reads what is not active. One file for each file of definitions, and Step for the theorem. Diagonals says which
--- diagonal a solve names.
+-- diagonal a solve names, CountLimits how many pair steps a call makes at most, and Counter that counting changes nothing else.
 pub mod Choice
 pub mod Products
 pub mod Forward
@@ -9,3 +9,6 @@ pub mod Solves
 pub mod Refusals
 pub mod Diagonals
 pub mod Step
+pub mod Counts
+pub mod CountLimits
+pub mod Counter

@@ -29,7 +29,7 @@ module _ (N : NumberForm) (E T : N .Value) where
     states-agree : Agree S R
     states-agree = record { n = refl; L = hL; U = hU }
 
-    refusal-same : (c : Call Value) → refusal N S c ≡ refusal N R c
+    pub refusal-same : (c : Call Value) → refusal N S c ≡ refusal N R c
     unfolding refusal
     refusal-same (push row column d) = refl
     refusal-same (replaceRow r row) = refl

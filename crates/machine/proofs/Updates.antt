@@ -7,10 +7,10 @@ use native.Mathlib.Omega.{arith}
 use lib.Dec.{leb, ltb, eqb, ltb→lt, eqb→eq}
 use Rattle.numbers.specs.NumberForm.{NumberForm}
 use Rattle.machine.specs.Tables.{Table, Work}
-use Rattle.machine.specs.Products.{entry, unset}
+use Rattle.machine.specs.Products.{entry}
 use Rattle.machine.specs.Forward.{copyDenseToRow, forwardRows, forward}
-use Rattle.machine.specs.Backward.{trim}
-use Rattle.machine.specs.Updates.{putColumn, putSelected, columnCopied, bordered, columnCleared, unitRow, restoredFrom, restored, pushed, columnReplaced, rowReplacedFrom, rowReplaced, columnDropped, removed}
+use Rattle.machine.specs.Backward.{trim, backward}
+use Rattle.machine.specs.Updates.{putColumn, putSelected, columnCopied, bordered, columnCleared, columnProduct, lastColumnRead, columnTaken, columnMoved, unitRow, restoredFrom, restored, pushed, columnReplaced, rowReplacedFrom, rowReplaced, columnDropped, removed}
 use Rattle.machine.specs.Agreement.{AgreeWithin}
 use Rattle.machine.proofs.Choice.{neqb→ne, choose, within-choose, within-from}
 use Rattle.machine.proofs.Products.{product-same}
@@ -32,7 +32,7 @@ module _ (N : NumberForm) (E T : N .Value) where
       v = h .v;
     }
 
-    put-selected-same : (selected : ℕ) {S R : Work Value} → selected < n → AgreeWithin n (suc k) columns n S R
+    pub put-selected-same : (selected : ℕ) {S R : Work Value} → selected < n → AgreeWithin n (suc k) columns n S R
         → AgreeWithin n k columns n (putSelected k selected S) (putSelected k selected R)
     unfolding putSelected
     put-selected-same selected hs h = record {
@@ -68,7 +68,7 @@ module _ (N : NumberForm) (E T : N .Value) where
   first-push L U d = (refl, refl)
 
   module _ (n : ℕ) (L U L′ U′ : Table Value) (hL : (i j : ℕ) → i < n → j < n → L i j ≡ L′ i j) (hU : (i j : ℕ) → i ≤ j → j < n → U i j ≡ U′ i j) where
-    bordered-same : (row row′ column column′ : List Value) (d : Value) → ((j : ℕ) → j < n → entry N row j ≡ entry N row′ j) → ((j : ℕ) → j < n → entry N column j ≡ entry N column′ j)
+    pub bordered-same : (row row′ column column′ : List Value) (d : Value) → ((j : ℕ) → j < n → entry N row j ≡ entry N row′ j) → ((j : ℕ) → j < n → entry N column j ≡ entry N column′ j)
         → AgreeWithin (suc n) 0 (suc n) (suc n) (bordered N n L U row column d) (bordered N n L′ U′ row′ column′ d)
     unfolding bordered
     bordered-same row row′ column column′ d er ec = record {
@@ -86,41 +86,69 @@ module _ (N : NumberForm) (E T : N .Value) where
     pushed-same row row′ column column′ d er ec =
         forward-same N E T (suc n) (suc n) (suc n) (omega arith) 0 n (omega arith) (omega arith) (omega arith) (bordered-same row row′ column column′ d er ec)
 
+    -- w is the L product of the values, and U(i,k) takes w(i)
+    pub column-placed-same : (k : ℕ) (column column′ : List Value) → k < n → ((j : ℕ) → j < n → entry N column j ≡ entry N column′ j)
+        → AgreeWithin n n n n (putColumn k (columnProduct N n L U column)) (putColumn k (columnProduct N n L′ U′ column′))
+    column-placed-same k column column′ hk ec = put-column-same n n k (omega arith) hk (record {
+      L = hL;
+      U = hU;
+      y = λ j a b. absurd (omega arith);
+      v = product-same N n L L′ _ _ hL ec;
+    })
+
     pub column-replaced-same : (k : ℕ) (column column′ : List Value) → k < n → ((j : ℕ) → j < n → entry N column j ≡ entry N column′ j)
         → AgreeWithin n n n n (columnReplaced N E T n L U k column) (columnReplaced N E T n L′ U′ k column′)
     unfolding columnReplaced
     column-replaced-same k column column′ hk ec =
-        let h = put-column-same n n k (omega arith) hk (record {
-          L = hL;
-          U = hU;
-          y = λ j a b. absurd (omega arith);
-          v = product-same N n L L′ _ _ hL ec;
-        }) in
+        let h = column-placed-same k column column′ hk ec in
         within-choose (ltb (suc k) n)
         (λ s. let l = ltb→lt (suc k) n s in within-from (omega arith) (restored-same n n k (omega arith) hk (n - 1) n (omega arith) (omega arith) (omega arith) h))
         (λ _. h)
 
-    column-dropped-same : (k : ℕ) → k < n → AgreeWithin n n (n - 1) n (columnDropped N E T (n - 1) L U k) (columnDropped N E T (n - 1) L′ U′ k)
+    -- w takes U's last column
+    last-column-read-same : 0 < n → AgreeWithin n (n - 1) (n - 1) n (lastColumnRead N (n - 1) L U) (lastColumnRead N (n - 1) L′ U′)
+    last-column-read-same h = record { L = hL; U = hU; y = λ j a b. refl; v = λ i hi. hU i (n - 1) (omega arith) (omega arith) }
+
+    pub last-column-placed-same : (k : ℕ) → k < n - 1
+        → AgreeWithin n (n - 1) (n - 1) n (putColumn k (lastColumnRead N (n - 1) L U)) (putColumn k (lastColumnRead N (n - 1) L′ U′))
+    last-column-placed-same k hk = put-column-same n (n - 1) k (omega arith) hk (last-column-read-same (omega arith))
+
+    pub column-dropped-same : (k : ℕ) → k < n → AgreeWithin n n (n - 1) n (columnDropped N E T (n - 1) L U k) (columnDropped N E T (n - 1) L′ U′ k)
     unfolding columnDropped
     column-dropped-same k hk =
         let p = n - 1 in
-        let h : AgreeWithin n p p n (record { L = L; U = U; y = unset N; v = λ i. U i p }) (record { L = L′; U = U′; y = unset N; v = λ i. U′ i p }) =
-        record { L = hL; U = hU; y = λ j a b. refl; v = λ i hi. hU i p (omega arith) (omega arith) } in
         within-choose (ltb k p)
-        (λ s. let l : k < p = ltb→lt k p s in within-from (omega arith) (restored-same n p k (omega arith) l p p l (omega arith) (omega arith) (put-column-same n p k (omega arith) l h)))
-        (λ _. within-from (omega arith) h)
+        (λ s. let l : k < p = ltb→lt k p s in within-from (omega arith) (restored-same n p k (omega arith) l p p l (omega arith) (omega arith) (last-column-placed-same k l)))
+        (λ _. within-from (omega arith) (last-column-read-same (omega arith)))
 
-    pub removed-same : (r k : ℕ) → r < n → k < n → AgreeWithin n 0 (n - 1) n (removed N E T (n - 1) L U r k) (removed N E T (n - 1) L′ U′ r k)
-    unfolding removed columnCopied
-    removed-same r k hr hk =
-        let p = n - 1 in
+    -- w takes L's column r, and the last column is copied to r
+    pub column-moved-same : (r k : ℕ) → r < n → k < n
+        → (let D = columnDropped N E T (n - 1) L U k in
+        let D′ = columnDropped N E T (n - 1) L′ U′ k in
+        AgreeWithin n 0 (n - 1) n (columnMoved N (n - 1) r (D .L) (D .U)) (columnMoved N (n - 1) r (D′ .L) (D′ .U)))
+    unfolding columnCopied
+    column-moved-same r k hr hk =
         let d = column-dropped-same k hk in
-        backward-same N E T n p (omega arith) 0 p 0 (omega arith) (omega arith) (record {
+        record {
           L = λ i j hi hj. choose (eqb j r) (λ _. d .L i _ hi (omega arith)) (λ _. d .L i j hi hj);
           U = d .U;
           y = λ j _ _. refl;
           v = λ j hj. d .L j r hj hr;
-        })
+        }
+
+    pub removed-same : (r k : ℕ) → r < n → k < n → AgreeWithin n 0 (n - 1) n (removed N E T (n - 1) L U r k) (removed N E T (n - 1) L′ U′ r k)
+    unfolding removed
+    removed-same r k hr hk = backward-same N E T n (n - 1) (omega arith) 0 (n - 1) 0 (omega arith) (omega arith) (column-moved-same r k hr hk)
+
+    -- w takes L's column r, which becomes 0
+    pub column-taken-same : (r : ℕ) → r < n → AgreeWithin n 0 n n (columnTaken N r L U) (columnTaken N r L′ U′)
+    unfolding columnCleared
+    column-taken-same r hr = record {
+      L = λ i j hi hj. choose (eqb j r) (λ _. refl) (λ _. hL i j hi hj);
+      U = hU;
+      y = λ j _ _. refl;
+      v = λ j hj. hL j r hj hr;
+    }
 
     unit-row-same : (s r : ℕ) (row row′ : List Value) (lo : ℕ) {S R : Work Value} → ((j : ℕ) → j < n → entry N row j ≡ entry N row′ j) → AgreeWithin n lo n n S R
         → AgreeWithin n 0 n n (unitRow N s r row S) (unitRow N s r row′ R)
@@ -132,18 +160,17 @@ module _ (N : NumberForm) (E T : N .Value) where
       v = h .v;
     }
 
+    -- Forward's start, after Backward
+    pub unit-row-set-same : (r : ℕ) (row row′ : List Value) (selected : ℕ) → r < n → selected < n → ((j : ℕ) → j < n → entry N row j ≡ entry N row′ j)
+        → AgreeWithin n 0 n n (unitRow N selected r row (backward N E T 0 selected n (columnTaken N r L U))) (unitRow N selected r row′ (backward N E T 0 selected n (columnTaken N r L′ U′)))
+    unit-row-set-same r row row′ selected hr hs er =
+        unit-row-same selected r row row′ 0 er (backward-same N E T n n (omega arith) 0 selected 0 hs (omega arith) (column-taken-same r hr))
+
     row-replaced-from-same : (r : ℕ) (row row′ : List Value) (selected : ℕ) → r < n → selected < n → ((j : ℕ) → j < n → entry N row j ≡ entry N row′ j)
         → AgreeWithin n 0 n n (rowReplacedFrom N E T n L U r row selected) (rowReplacedFrom N E T n L′ U′ r row′ selected)
-    unfolding rowReplacedFrom columnCleared
+    unfolding rowReplacedFrom
     row-replaced-from-same r row row′ selected hr hs er =
-        forward-same N E T n n n (omega arith) 0 selected hs (omega arith) (omega arith)
-        (unit-row-same selected r row row′ 0 er
-        (backward-same N E T n n (omega arith) 0 selected 0 hs (omega arith) (record {
-          L = λ i j hi hj. choose (eqb j r) (λ _. refl) (λ _. hL i j hi hj);
-          U = hU;
-          y = λ j _ _. refl;
-          v = λ j hj. hL j r hj hr;
-        })))
+        forward-same N E T n n n (omega arith) 0 selected hs (omega arith) (omega arith) (unit-row-set-same r row row′ selected hr hs er)
 
   pub row-replaced-same : (n : ℕ) (L U L′ U′ : Table Value) → ((i j : ℕ) → i < n → j < n → L i j ≡ L′ i j) → ((i j : ℕ) → i ≤ j → j < n → U i j ≡ U′ i j)
       → (r : ℕ) (row row′ : List Value) → r < n → ((j : ℕ) → j < n → entry N row j ≡ entry N row′ j)

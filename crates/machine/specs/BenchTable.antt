@@ -1,32 +1,18 @@
 -- Document 01's bench table for the machine (CallTable), and computed lines for what its rows don't tell apart (TrapTable).
 use mathlib.Core.Path.{_≡_, refl}
-use mathlib.Core.Bool.{true, false, cond}
+use mathlib.Core.Bool.{true, false}
 use mathlib.Core.List.{List, [], _∷_, _++_}
 use mathlib.Core.Option.{none, some}
-use Prim.Native.Nat.{ℕ, zero, suc, _+_, _-_, _*_, _^_}
-use lib.Dec.{eqb}
-use lib.ListN.{getD}
-use lib.Ieee.{Float, nan, binary64, add, sub, mul, div, le, lt, eq, neg, ofBits}
-use Rattle.numbers.specs.NumberForm.{ieee, nearest, absolute, double, whole}
-use Rattle.numbers.specs.Tolerances.{managedEpsilon, zeroBasedEpsilon, updateTiny, managedTiny, zeroBasedTiny}
-use Rattle.numbers.specs.PairStep.{pairStep, first, second}
+use Prim.Native.Nat.{ℕ, zero, suc, _+_, _-_, _^_}
+use lib.Ieee.{Float, nan, binary64, neg}
+use Rattle.numbers.specs.NumberForm.{ieee, double, whole}
+use Rattle.numbers.specs.Tolerances.{zeroBasedEpsilon, zeroBasedTiny}
 use Rattle.machine.specs.Tables.{State, tabulate}
-use Rattle.machine.specs.Products.{sum, product, productTransposed}
-use Rattle.machine.specs.Forward.{copyDenseToRow, transformRows, forwardActs, forwardTransform, forwardRow, forwardRows, forward}
-use Rattle.machine.specs.Backward.{copyRowToDense, negligible, trim, clearDense, backwardSkips, backwardTransform, backwardRow, backwardRows, backward}
-use Rattle.machine.specs.Updates.{putColumn, putSelected, columnCopied, bordered, columnCleared, unitRow, restoredFrom, restored, pushed, columnReplaced, rowReplacedFrom, rowReplaced, columnDropped, removed}
-use Rattle.machine.specs.Solves.{substituted, backSubstitution, forwardSubstitution, solution, solutionTransposed, diagonals}
+use Rattle.machine.specs.Forward.{forwardActs}
+use Rattle.machine.specs.Backward.{trim, backwardSkips}
 use Rattle.machine.specs.Calls.{Call, push, replaceRow, replaceColumn, remove, solve, solveTransposed, moved, refusedAt, Result}
-use Rattle.machine.specs.Machine.{refusal, accepted, stepUnder, step}
-
--- a call under the managed tolerances. Who unfolds `call` unfolds the whole machine
-call : State Float → Call Float → Result Float
-unfolding step stepUnder accepted refusal diagonals solution solutionTransposed substituted backSubstitution forwardSubstitution
-    pushed bordered columnReplaced putColumn restored restoredFrom putSelected rowReplaced rowReplacedFrom columnCleared unitRow removed columnDropped columnCopied
-    forward copyDenseToRow forwardRows forwardRow forwardActs forwardTransform transformRows
-    backward copyRowToDense negligible trim backwardRows backwardRow clearDense backwardSkips backwardTransform
-    product productTransposed sum pairStep first second managedEpsilon updateTiny nearest absolute add sub mul div le lt eq neg ofBits
-call = step (ieee binary64) (managedEpsilon binary64) (managedTiny binary64)
+use Rattle.machine.specs.Machine.{step}
+use Rattle.machine.specs.BenchStates.{call, empty, single, P, Q, square, M, M′, identity}
 
 -- the active entries, row by row
 pub record Factors : Type 0 where
@@ -44,19 +30,6 @@ factors S = record {
   L = joined (S .n) (λ i. tabulate (S .n) (λ j. S .L i j));
   U = joined (S .n) (λ i. tabulate (S .n - i) (λ j. S .U i (i + j)));
 }
-
--- dimension 0: a NaN stands wherever no call has written
-empty : State Float
-empty = record { n = 0; L = λ i j. nan; U = λ i j. nan }
-
--- dimension 1, by a push
-single : Float → State Float
-unfolding call empty
-single d = call empty (push [] [] d) .after
-
-P : State Float
-unfolding call single
-P = call (single (whole 2)) (push (whole 4 ∷ []) (whole 6 ∷ []) (whole 1)) .after
 
 pub record CallTable : Type 0 where
   P-is : factors P ≡ record {
@@ -101,32 +74,6 @@ callTable = record {
 callZeroBased : State Float → Call Float → Result Float
 unfolding call zeroBasedEpsilon
 callZeroBased = step (ieee binary64) zeroBasedEpsilon zeroBasedTiny
-
--- dimension 2 with an L that, unlike P's, is not symmetric: the rows (2,6) and (1,1)
-Q : State Float
-unfolding call single
-Q = call (single (whole 2)) (push (whole 1 ∷ []) (whole 6 ∷ []) (whole 1)) .after
-
--- dimension 3 with those entries, row by row; of U's, what stands below the diagonal is not active
-square : List Float → List Float → State Float
-square L U = record { n = 3; L = λ i j. getD L (i * 3 + j) nan; U = λ i j. getD U (i * 3 + j) nan }
-
-M : State Float
-unfolding square
-M = square
-    (whole 0 ∷ whole 2 ∷ whole 0 ∷ whole 0 ∷ neg (whole 1) ∷ neg (whole 1) ∷ whole 3 ∷ neg (whole 2) ∷ whole 2 ∷ [])
-    (whole 2 ∷ neg (whole 2) ∷ whole 1 ∷ nan ∷ whole 2 ∷ whole 2 ∷ nan ∷ nan ∷ whole 0 ∷ [])
-
--- L's column 1 ends in a zero, which Backward trims
-M′ : State Float
-unfolding square
-M′ = square
-    (neg (whole 2) ∷ neg (whole 1) ∷ whole 0 ∷ whole 4 ∷ neg (whole 2) ∷ neg (whole 2) ∷ neg (whole 1) ∷ whole 0 ∷ neg (whole 1) ∷ [])
-    (neg (whole 2) ∷ whole 2 ∷ whole 4 ∷ nan ∷ neg (whole 1) ∷ neg (whole 4) ∷ nan ∷ nan ∷ whole 1 ∷ [])
-
--- the identity
-identity : ℕ → State Float
-identity k = record { n = k; L = λ i j. cond (eqb i j) (whole 1) (whole 0); U = λ i j. cond (eqb i j) (whole 1) (whole 0) }
 
 pub record TrapTable : Type 0 where
   -- the plain solve takes the L product, and the transpose solve the transposed one

@@ -6,5 +6,8 @@ pub mod Updates
 pub mod Solves
 pub mod Calls
 pub mod Machine
+pub mod BenchStates
+pub mod Counts
+pub mod Counter
 pub mod Agreement
 pub mod BenchTable

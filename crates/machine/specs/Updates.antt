@@ -41,6 +41,22 @@ module _ (N : NumberForm) where
   unfoldable pub columnCleared : ℕ → Table Value → Table Value
   columnCleared r L i j = cond (eqb j r) 𝟎 (L i j)
 
+  -- w is the L product of the values
+  abbrev pub columnProduct : ℕ → Table Value → Table Value → List Value → Work Value
+  columnProduct n L U column = record { L = L; U = U; y = unset N; v = product N n L (entry N column) }
+
+  -- w takes U's column p
+  abbrev pub lastColumnRead : ℕ → Table Value → Table Value → Work Value
+  lastColumnRead p L U = record { L = L; U = U; y = unset N; v = λ i. U i p }
+
+  -- w takes L's column r, which becomes 0
+  abbrev pub columnTaken : ℕ → Table Value → Table Value → Work Value
+  columnTaken r L U = record { L = columnCleared r L; U = U; y = unset N; v = λ i. L i r }
+
+  -- w takes L's column r; column p is copied to r (to itself where r = p)
+  abbrev pub columnMoved : ℕ → ℕ → Table Value → Table Value → Work Value
+  columnMoved p r L U = record { L = columnCopied p r L; U = U; y = unset N; v = λ i. L i r }
+
   -- L's row s becomes 0 with 1 at r, and y takes the values
   unfoldable pub unitRow : ℕ → ℕ → List Value → Work Value → Work Value
   unitRow s r row S = record { L = λ i j. cond (eqb i s) (cond (eqb j r) 𝟏 𝟎) (S .L i j); U = S .U; y = entry N row; v = S .v }
@@ -65,7 +81,7 @@ module _ (N : NumberForm) (E T : N .Value) where
 
   unfoldable pub columnReplaced : ℕ → Table Value → Table Value → ℕ → List Value → Work Value
   columnReplaced n L U k column =
-      let S = putColumn k (record { L = L; U = U; y = unset N; v = product N n L (entry N column) }) in
+      let S = putColumn k (columnProduct N n L U column) in
       let R = restored k (n - 1) n S in
       cond (ltb (suc k) n) R S
 
@@ -74,8 +90,7 @@ module _ (N : NumberForm) (E T : N .Value) where
 
   unfoldable pub rowReplacedFrom : ℕ → Table Value → Table Value → ℕ → List Value → ℕ → Work Value
   rowReplacedFrom n L U r row selected =
-      let S : Work Value = record { L = columnCleared N r L; U = U; y = unset N; v = λ i. L i r } in
-      forward N E T 0 selected n (unitRow N selected r row (backward N E T 0 selected n S))
+      forward N E T 0 selected n (unitRow N selected r row (backward N E T 0 selected n (columnTaken N r L U)))
 
   unfoldable pub rowReplaced : ℕ → Table Value → Table Value → ℕ → List Value → Work Value
   rowReplaced n L U r row =
@@ -88,12 +103,12 @@ module _ (N : NumberForm) (E T : N .Value) where
   -- if k < p, w takes U's column p, U(i,k) takes w(i) for i ≤ k, Backward trimming (k + 1, p, p), y(k) takes w(selected), Forward (k, selected, p)
   unfoldable pub columnDropped : ℕ → Table Value → Table Value → ℕ → Work Value
   columnDropped p L U k =
-      let S : Work Value = record { L = L; U = U; y = unset N; v = λ i. U i p } in
+      let S = lastColumnRead N p L U in
       let R = restored k p p (putColumn k S) in
       cond (ltb k p) R S
 
-  -- Then w takes L's column r; column p is copied to r (to itself where r = p). Backward without trimming (0, p, p) on w.
+  -- Then w takes L's column r; column p is copied to r. Backward without trimming (0, p, p) on w.
   unfoldable pub removed : ℕ → Table Value → Table Value → ℕ → ℕ → Work Value
   removed p L U r k =
       let D = columnDropped p L U k in
-      backward N E T 0 p p (record { L = columnCopied p r (D .L); U = D .U; y = unset N; v = λ i. D .L i r })
+      backward N E T 0 p p (columnMoved N p r (D .L) (D .U))

@@ -30,7 +30,7 @@ accepted-is-0 N E T S (remove r k) = refl
 accepted-is-0 N E T S (solve b) = refl
 accepted-is-0 N E T S (solveTransposed b) = refl
 
-module _ (N : NumberForm) (E T : N .Value) {c : Call (N .Value)} {s t : Instance (N .Value)} {a : Answer} {b : List (N .Value)} (o : Outcome N E T c s t a b)
+module _ (N : NumberForm) (E T : N .Value) {c : Call (N .Value)} {s t : Instance (N .Value)} {a : Answer} {b : List (N .Value)} {k : ℕ} (o : Outcome N E T c s t a b k)
     (e : refusalAt N s c ≡ none) where
   open NumberForm N using (absent)
 

@@ -3,6 +3,7 @@ pub mod Refusals
 pub mod Outcomes
 pub mod Refused
 pub mod Accepted
+pub mod Counted
 pub mod ListClaim
 pub mod Writing
 pub mod Satisfiable

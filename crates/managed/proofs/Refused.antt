@@ -91,7 +91,7 @@ module _ (N : NumberForm) where
 
 -- ---- the outcome
 
-module _ (N : NumberForm) (E T : N .Value) {c : Call (N .Value)} {s t : Instance (N .Value)} {a : Answer} {b : List (N .Value)} (o : Outcome N E T c s t a b) where
+module _ (N : NumberForm) (E T : N .Value) {c : Call (N .Value)} {s t : Instance (N .Value)} {a : Answer} {b : List (N .Value)} {k : ℕ} (o : Outcome N E T c s t a b k) where
   -- dimension, capacity, factors, right-hand side and workspaces
   pub refused-untouched : (r : Answer) → refusalAt N s c ≡ some r → (a ≡ r) × (b ≡ given c) × (t ≡ s)
   unfolding stepUnder

@@ -13,13 +13,15 @@ use Rattle.numbers.specs.NumberForm.{NumberForm}
 use Rattle.machine.specs.Tables.{State}
 use Rattle.machine.specs.Calls.{Call, push, replaceRow, replaceColumn, remove, solve, solveTransposed, Answer, Result, given, isPush, isUpdate}
 use Rattle.machine.specs.Machine.{accepted, stepUnder}
+use Rattle.machine.specs.Counts.{acceptedCount}
 use Rattle.machine.specs.Agreement.{Agree}
 use Rattle.machine.proofs.Choice.{agree-refl}
 use Rattle.storage.specs.Places.{lLength, uLength, overflows, lIndex, uIndex}
 use Rattle.storage.proofs.Places.{lIndex-within, lIndex-injective, uIndex-within, uIndex-injective}
-use Rattle.managed.specs.Instance.{Instance, view}
+use Rattle.machine.specs.Counter.{capped, CountedState}
+use Rattle.managed.specs.Instance.{Instance, view, viewCounted}
 use Rattle.managed.specs.Refusals.{workspaceTests, lentTests, refusalAt}
-use Rattle.managed.specs.Lists.{pushes, Event, Trace, Setting}
+use Rattle.managed.specs.Lists.{AgreeCounted, pushes, Event, Trace, Setting}
 use Rattle.managed.specs.Outcome.{Frame, Outcome}
 use Rattle.managed.proofs.StorageTests.{storage-passes}
 use Rattle.managed.proofs.Refusals.{reached-within, accepted-storage}
@@ -36,7 +38,8 @@ module _ (N : NumberForm) (E T : N .Value) where
     pub after : Instance Value
     pub answer : Answer
     pub solved : List Value
-    pub outcome : Outcome N E T c s after answer solved
+    pub steps : ℕ
+    pub outcome : Outcome N E T c s after answer solved steps
 
   -- an accepted update: the machine's factors are written to their places
   module _ (s : Instance Value) (c : Call Value) (e : refusalAt N s c ≡ none) where
@@ -47,6 +50,7 @@ module _ (N : NumberForm) (E T : N .Value) where
     t = record {
       n = R .n;
       c = s .c;
+      counter = capped (s .counter + acceptedCount N E T (view N s) c);
       l = written N (lIndex (s .c)) (λ i j. true) (R .L) (R .n) (s .l);
       u = written N (uIndex (s .c)) leb (R .U) (R .n) (s .u);
       y = s .y;
@@ -95,20 +99,22 @@ module _ (N : NumberForm) (E T : N .Value) where
       R = accepted N E T (view N s) c
 
       go : (o : Option Answer) → refusalAt N s c ≡ o → (b : Bool) → isUpdate c ≡ b → Met s c
-      go (some r) e b k = record { after = s; answer = r; solved = given c; outcome = outcome-refused N E T c s e }
+      go (some r) e b k = record { after = s; answer = r; solved = given c; steps = 0; outcome = outcome-refused N E T c s e }
       go none e true k = record {
         after = t s c e;
         answer = R .answer;
         solved = R .solved;
-        outcome = outcome-accepted N E T c s e (record { answer = refl; solved = refl; after = shown s c e }) refl
+        steps = acceptedCount N E T (view N s) c;
+        outcome = outcome-accepted N E T c s e (record { answer = refl; solved = refl; after = shown s c e }) refl refl (rw k)
             (subst (λ (p : Bool). Frame N p s (t s c e)) (sym k) (framed s c e));
       }
       go none e false k = record {
         after = s;
         answer = R .answer;
         solved = R .solved;
+        steps = acceptedCount N E T (view N s) c;
         outcome = outcome-accepted N E T c s e
-            (record { answer = refl; solved = refl; after = subst (Agree (view N s)) (sym (solve-stands (view N s) c k)) (agree-refl (view N s)) }) refl
+            (record { answer = refl; solved = refl; after = subst (Agree (view N s)) (sym (solve-stands (view N s) c k)) (agree-refl (view N s)) }) refl refl (rw k)
             (subst (λ (p : Bool). Frame N p s s) (sym k) (record { l = kept-all N; u = refl; y = refl; z = refl; w = refl }));
       }
 
@@ -141,7 +147,7 @@ module _ (N : NumberForm) (E T : N .Value) where
     z : length (t .z) ≡ length (s .z)
     w : length (t .w) ≡ length (s .w)
 
-  as-long : {s t : Instance Value} {c : Call Value} {a : Answer} {b : List Value} → Outcome N E T c s t a b → AsLong s t
+  as-long : {s t : Instance Value} {c : Call Value} {a : Answer} {b : List Value} {k : ℕ} → Outcome N E T c s t a b k → AsLong s t
   as-long {s} {t} {c} o = go (refusalAt N s c) refl (isUpdate c) refl
     where
       framed-long : (b : Bool) → Frame N b s t → AsLong s t
@@ -153,7 +159,7 @@ module _ (N : NumberForm) (E T : N .Value) where
       go none e b k = framed-long (isUpdate c) (o .frame e)
 
   -- the dimension grows by pushes alone
-  grows : {s t : Instance Value} {c : Call Value} {a : Answer} {b : List Value} → Outcome N E T c s t a b → t .n ≤ s .n + cond (isPush c) 1 0
+  grows : {s t : Instance Value} {c : Call Value} {a : Answer} {b : List Value} {k : ℕ} → Outcome N E T c s t a b k → t .n ≤ s .n + cond (isPush c) 1 0
   unfolding stepUnder
   grows {s} {t} {c} o = go (refusalAt N s c) (o .result .after .n)
     where
@@ -171,20 +177,20 @@ module _ (N : NumberForm) (E T : N .Value) where
   }
 
   pub every-list : (room : ℕ) (cs : List (Call Value)) (s : Instance Value) → Fit s → s .n + pushes cs ≤ room → room ≤ s .c → room ≤ length (s .y)
-      → (es : List (Event Value)) × Trace N E T (s .c) room (view N s) cs es
+      → (es : List (Event Value)) × Trace N E T (s .c) room (viewCounted N s) cs es
   every-list room [] s f n c y = ([], tt)
   every-list room (x ∷ xs) s f n c y =
       let m = every-call s x in
       let k = as-long (m .outcome) in
       let rest = every-list room xs (m .after) (fit-after k f) (omega (arith, grows (m .outcome))) (omega (arith, k .c)) (omega (arith, k .y)) in
-      let e : Event Value = record { before = s; after = m .after; answer = m .answer; solved = m .solved } in
-      (e ∷ rest .0, (record { resumes = agree-refl (view N s); at-capacity = refl; lends = fit-lends s x f (omega arith); workspace = λ _. y; outcome = m .outcome }, subst (λ (d : ℕ). Trace N E T d room (view N (m .after)) xs (rest .0)) (k .c) (rest .1)))
+      let e : Event Value = record { before = s; after = m .after; answer = m .answer; solved = m .solved; steps = m .steps } in
+      (e ∷ rest .0, (record { resumes = record { state = agree-refl (view N s); counter = refl }; at-capacity = refl; lends = fit-lends s x f (omega arith); workspace = λ _. y; outcome = m .outcome }, subst (λ (d : ℕ). Trace N E T d room (viewCounted N (m .after)) xs (rest .0)) (k .c) (rest .1)))
 
   -- two instances from one start
-  pub every-setting : (cs : List (Call Value)) (S : State Value) (s₁ s₂ : Instance Value) → Agree S (view N s₁) → Agree S (view N s₂) → Fit s₁ → Fit s₂
-      → S .n + pushes cs ≤ s₁ .c → S .n + pushes cs ≤ s₂ .c → S .n + pushes cs ≤ length (s₁ .y) → S .n + pushes cs ≤ length (s₂ .y)
-      → (es₁ : List (Event Value)) × (es₂ : List (Event Value)) × Setting N E T cs S (view N s₁) (view N s₂) (s₁ .c) (s₂ .c) es₁ es₂
+  pub every-setting : (cs : List (Call Value)) (S : CountedState Value) (s₁ s₂ : Instance Value) → AgreeCounted S (viewCounted N s₁) → AgreeCounted S (viewCounted N s₂) → Fit s₁ → Fit s₂
+      → S .state .n + pushes cs ≤ s₁ .c → S .state .n + pushes cs ≤ s₂ .c → S .state .n + pushes cs ≤ length (s₁ .y) → S .state .n + pushes cs ≤ length (s₂ .y)
+      → (es₁ : List (Event Value)) × (es₂ : List (Event Value)) × Setting N E T cs S (viewCounted N s₁) (viewCounted N s₂) (s₁ .c) (s₂ .c) es₁ es₂
   every-setting cs S s₁ s₂ a₁ a₂ f₁ f₂ c₁ c₂ y₁ y₂ =
-      let r₁ = every-list (S .n + pushes cs) cs s₁ f₁ (omega (arith, a₁ .n)) c₁ y₁ in
-      let r₂ = every-list (S .n + pushes cs) cs s₂ f₂ (omega (arith, a₂ .n)) c₂ y₂ in
+      let r₁ = every-list (S .state .n + pushes cs) cs s₁ f₁ (omega (arith, a₁ .state .n)) c₁ y₁ in
+      let r₂ = every-list (S .state .n + pushes cs) cs s₂ f₂ (omega (arith, a₂ .state .n)) c₂ y₂ in
       (r₁ .0, r₂ .0, record { start₁ = a₁; start₂ = a₂; room₁ = c₁; room₂ = c₂; trace₁ = r₁ .1; trace₂ = r₂ .1 })

@@ -7,13 +7,23 @@ use mathlib.Core.Option.{none}
 use Prim.Native.Nat.{ℕ, _+_, _≤_}
 use lib.ListN.{length}
 use Rattle.numbers.specs.NumberForm.{NumberForm}
-use Rattle.machine.specs.Tables.{State}
 use Rattle.machine.specs.Calls.{Call, Answer, Result, isPush, isUpdate}
-use Rattle.machine.specs.Machine.{run}
+use Rattle.machine.specs.Counter.{capped, CountedState, CountedResult, countedRun}
 use Rattle.machine.specs.Agreement.{Agree, Same}
-use Rattle.managed.specs.Instance.{Instance, view}
+use Rattle.managed.specs.Instance.{Instance, view, viewCounted}
 use Rattle.managed.specs.Refusals.{lentTests}
 use Rattle.managed.specs.Outcome.{Outcome}
+
+-- equal dimensions, active entries and counters; counters are equal where they count as the same figure
+pub record AgreeCounted {A : Type 0} (S R : CountedState A) : Type 0 where
+  pub state : Agree (S .state) (R .state)
+  pub counter : capped (S .counter) ≡ capped (R .counter)
+
+-- the same answer, number of pair steps and solved vector, and after the call the same dimension, active factors and counter
+pub record SameCounted {A : Type 0} (a b : CountedResult A) : Type 0 where
+  pub result : Same (a .result) (b .result)
+  pub steps : a .steps ≡ b .steps
+  pub counter : capped (a .counter) ≡ capped (b .counter)
 
 module _ {A : Type 0} where
   -- Pushes in the list are counted whether refused or not.
@@ -21,12 +31,12 @@ module _ {A : Type 0} where
   pushes [] = 0
   pushes (c ∷ cs) = cond (isPush c) 1 0 + pushes cs
 
-  -- the same answers and solved vectors, and after each call the same dimension and active factors
-  abbrev pub AllSame : List (Result A) → List (Result A) → Type 0
+  -- the same after each call
+  abbrev pub AllSame : List (CountedResult A) → List (CountedResult A) → Type 0
   AllSame [] [] = Unit {0}
   AllSame [] (b ∷ bs) = ⊥
   AllSame (a ∷ as′) [] = ⊥
-  AllSame (a ∷ as′) (b ∷ bs) = Same a b × AllSame as′ bs
+  AllSame (a ∷ as′) (b ∷ bs) = SameCounted a b × AllSame as′ bs
 
 -- one call of an instance, as it happened
 pub record Event (A : Type 0) : Type 0 where
@@ -34,6 +44,7 @@ pub record Event (A : Type 0) : Type 0 where
   pub after : Instance A
   pub answer : Answer
   pub solved : List A
+  pub steps : ℕ
 
 module _ (N : NumberForm) where
   open NumberForm N using (Value)
@@ -41,42 +52,45 @@ module _ (N : NumberForm) where
   abbrev pub resultOf : Event Value → Result Value
   resultOf e = record { answer = e .answer; solved = e .solved; after = view N (e .after) }
 
-  abbrev pub results : List (Event Value) → List (Result Value)
+  abbrev pub countedResultOf : Event Value → CountedResult Value
+  countedResultOf e = record { result = resultOf e; steps = e .steps; counter = e .after .counter }
+
+  abbrev pub results : List (Event Value) → List (CountedResult Value)
   results [] = []
-  results (e ∷ es) = resultOf e ∷ results es
+  results (e ∷ es) = countedResultOf e ∷ results es
 
 module _ (N : NumberForm) (E T : N .Value) where
   open NumberForm N using (Value)
 
-  -- The call c of an instance that stays at one capacity, where `room` is the starting dimension plus the pushes in the list. It gets the dimension and
-  -- active factors of S, as the call before left them, and lends storage and workspaces that pass refusals 1 to 3. What else its memory holds, and how long
+  -- The call c of an instance that stays at one capacity, where `room` is the starting dimension plus the pushes in the list. It gets the dimension,
+  -- active factors and counter of S, as the call before left them, and lends storage and workspaces that pass refusals 1 to 3. What else its memory holds, and how long
   -- its buffers are beyond that, is free.
-  pub record Happens (capacity room : ℕ) (S : State Value) (c : Call Value) (e : Event Value) : Type 0 where
-    pub resumes : Agree S (view N (e .before))
+  pub record Happens (capacity room : ℕ) (S : CountedState Value) (c : Call Value) (e : Event Value) : Type 0 where
+    pub resumes : AgreeCounted S (viewCounted N (e .before))
     pub at-capacity : e .before .c ≡ capacity
     pub lends : lentTests (e .before) c ≡ none
     pub workspace : So (isUpdate c) → room ≤ length (e .before .y)
-    pub outcome : Outcome N E T c (e .before) (e .after) (e .answer) (e .solved)
+    pub outcome : Outcome N E T c (e .before) (e .after) (e .answer) (e .solved) (e .steps)
 
   -- a list of calls, one after another
-  abbrev pub Trace : ℕ → ℕ → State Value → List (Call Value) → List (Event Value) → Type 0
+  abbrev pub Trace : ℕ → ℕ → CountedState Value → List (Call Value) → List (Event Value) → Type 0
   Trace capacity room S [] [] = Unit {0}
   Trace capacity room S [] (e ∷ es) = ⊥
   Trace capacity room S (c ∷ cs) [] = ⊥
-  Trace capacity room S (c ∷ cs) (e ∷ es) = Happens capacity room S c e × Trace capacity room (view N (e .after)) cs es
+  Trace capacity room S (c ∷ cs) (e ∷ es) = Happens capacity room S c e × Trace capacity room (viewCounted N (e .after)) cs es
 
-  -- The premises: all start at one dimension with equal active entries, the plain machine from S and the instances from S₁ and S₂; capacities and workspaces
+  -- The premises: all start at one dimension with equal active entries and counters, the plain machine from S and the instances from S₁ and S₂; capacities and workspaces
   -- are at least the starting dimension plus the number of pushes in the list.
-  pub record Setting (cs : List (Call Value)) (S S₁ S₂ : State Value) (capacity₁ capacity₂ : ℕ) (es₁ es₂ : List (Event Value)) : Type 0 where
-    pub start₁ : Agree S S₁
-    pub start₂ : Agree S S₂
-    pub room₁ : S .n + pushes cs ≤ capacity₁
-    pub room₂ : S .n + pushes cs ≤ capacity₂
-    pub trace₁ : Trace capacity₁ (S .n + pushes cs) S₁ cs es₁
-    pub trace₂ : Trace capacity₂ (S .n + pushes cs) S₂ cs es₂
+  pub record Setting (cs : List (Call Value)) (S S₁ S₂ : CountedState Value) (capacity₁ capacity₂ : ℕ) (es₁ es₂ : List (Event Value)) : Type 0 where
+    pub start₁ : AgreeCounted S S₁
+    pub start₂ : AgreeCounted S S₂
+    pub room₁ : S .state .n + pushes cs ≤ capacity₁
+    pub room₂ : S .state .n + pushes cs ≤ capacity₂
+    pub trace₁ : Trace capacity₁ (S .state .n + pushes cs) S₁ cs es₁
+    pub trace₂ : Trace capacity₂ (S .state .n + pushes cs) S₂ cs es₂
 
   -- two instances and the plain machine give the same
-  pub record Claim (cs : List (Call Value)) (S : State Value) (es₁ es₂ : List (Event Value)) : Type 0 where
-    pub first : AllSame (run N E T S cs) (results N es₁)
-    pub second : AllSame (run N E T S cs) (results N es₂)
+  pub record Claim (cs : List (Call Value)) (S : CountedState Value) (es₁ es₂ : List (Event Value)) : Type 0 where
+    pub first : AllSame (countedRun N E T S cs) (results N es₁)
+    pub second : AllSame (countedRun N E T S cs) (results N es₂)
     pub both : AllSame (results N es₁) (results N es₂)

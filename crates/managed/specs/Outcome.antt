@@ -7,9 +7,11 @@ use Prim.Native.Nat.{ℕ, _<_, max}
 use Rattle.numbers.specs.NumberForm.{NumberForm}
 use Rattle.machine.specs.Calls.{Call, Answer, isUpdate}
 use Rattle.machine.specs.Machine.{stepUnder}
+use Rattle.machine.specs.Counts.{countUnder}
 use Rattle.machine.specs.Agreement.{Same}
 use Rattle.storage.specs.Places.{LPlace, UPlace, WorkPlace}
 use Rattle.storage.specs.Views.{Kept}
+use Rattle.machine.specs.Counter.{counterAfter}
 use Rattle.managed.specs.Instance.{Instance, view}
 use Rattle.managed.specs.Refusals.{refusalAt}
 
@@ -40,11 +42,16 @@ module _ (N : NumberForm) where
 module _ (N : NumberForm) (E T : N .Value) where
   open NumberForm N using (Value)
 
-  -- The call c takes the instance s to t, with the answer a and the right-hand side left as b ([] for an update).
-  pub record Outcome (c : Call Value) (s t : Instance Value) (a : Answer) (b : List Value) : Type 0 where
+  -- The call c takes the instance s to t, with the answer a, the right-hand side left as b ([] for an update) and the number k of pair steps (0 for a solve,
+  -- which answers none).
+  pub record Outcome (c : Call Value) (s t : Instance Value) (a : Answer) (b : List Value) (k : ℕ) : Type 0 where
     -- answer, solved vector, dimension and active factors are those of the machine's step, under the refusal that the storage gives
     pub result : Same (record { answer = a; solved = b; after = view N t }) (stepUnder N E T (refusalAt N s c) (view N s) c)
+    -- the number is that of the machine, and 0 for a refused call
+    pub steps : k ≡ countUnder N E T (refusalAt N s c) (view N s) c
     pub capacity : t .c ≡ s .c
+    -- an accepted update adds it to the counter, which stops at 999,999; a solve leaves the counter
+    pub counter : refusalAt N s c ≡ none → t .counter ≡ counterAfter c (s .counter) k
     -- refusals write nothing anywhere
     pub untouched : (r : Answer) → refusalAt N s c ≡ some r → t ≡ s
     -- an accepted call leaves all but the active entries and the scratch

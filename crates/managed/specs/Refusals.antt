@@ -53,6 +53,7 @@ lent : Float → ℕ → ℕ → ℕ → ℕ → ℕ → ℕ → ℕ → Instanc
 lent d n c l u y z w = record {
   n = n;
   c = c;
+  counter = 0;
   l = replicate l d;
   u = replicate u d;
   y = replicate y d;

@@ -21,22 +21,22 @@ use Rattle.refusals.specs.Tests.{pushTests, replacementTests, removeTest
 abbrev pub lengthsOf : {A : Type 0} → List A → List A → List A → List A → List A → LentLengths
 lengthsOf l u y z w = record { l = length l; u = length u; y = length y; z = length z; w = length w }
 
-module _ (N : NumberForm) (n c : ℕ) (l u y z w : List (N .Value)) where
+module _ (N : NumberForm) (n c counter : ℕ) (l u y z w : List (N .Value)) where
   open NumberForm N using (Value)
 
-  pub push-tested : (row column : List Value) (d : Value) → managed.refusalAt N (instance n c l u y z w) (push row column d) ≡ pushTests n c (lengthsOf l u y z w) (length row) (length column)
+  pub push-tested : (row column : List Value) (d : Value) → managed.refusalAt N (instance n c counter l u y z w) (push row column d) ≡ pushTests n c (lengthsOf l u y z w) (length row) (length column)
   unfolding managed.refusalAt managed.lentTests refusal
   push-tested row column d = refl
 
-  pub row-tested : (row : ℕ) (values : List Value) → managed.refusalAt N (instance n c l u y z w) (replaceRow row values) ≡ replacementTests n c (lengthsOf l u y z w) row (refused 5) (length values)
+  pub row-tested : (row : ℕ) (values : List Value) → managed.refusalAt N (instance n c counter l u y z w) (replaceRow row values) ≡ replacementTests n c (lengthsOf l u y z w) row (refused 5) (length values)
   unfolding managed.refusalAt managed.lentTests refusal
   row-tested row values = rw add-zero refl
 
-  pub column-tested : (column : ℕ) (values : List Value) → managed.refusalAt N (instance n c l u y z w) (replaceColumn column values) ≡ replacementTests n c (lengthsOf l u y z w) column (refused 6) (length values)
+  pub column-tested : (column : ℕ) (values : List Value) → managed.refusalAt N (instance n c counter l u y z w) (replaceColumn column values) ≡ replacementTests n c (lengthsOf l u y z w) column (refused 6) (length values)
   unfolding managed.refusalAt managed.lentTests refusal
   column-tested column values = rw add-zero refl
 
-  pub remove-tested : (row column : ℕ) → managed.refusalAt N (instance n c l u y z w) (remove row column) ≡ removeTests n c (lengthsOf l u y z w) row column
+  pub remove-tested : (row column : ℕ) → managed.refusalAt N (instance n c counter l u y z w) (remove row column) ≡ removeTests n c (lengthsOf l u y z w) row column
   unfolding managed.refusalAt managed.lentTests refusal
   remove-tested row column = rw add-zero refl
 
@@ -45,12 +45,12 @@ only-own : (a b : Option Answer) → ((a orElse none) orElse (b orElse none)) �
 only-own none b = or-else-last b none refl
 only-own (some x) b = refl
 
-module _ (N : NumberForm) (n c : ℕ) (l u rhs : List (N .Value)) where
-  pub solve-tested : managed.refusalAt N (lentToSolve n c l u) (solve rhs) ≡ solveTests n c (length l) (length u) (length rhs) (diagonals N (viewU N c u) n)
+module _ (N : NumberForm) (n c counter : ℕ) (l u rhs : List (N .Value)) where
+  pub solve-tested : managed.refusalAt N (lentToSolve n c counter l u) (solve rhs) ≡ solveTests n c (length l) (length u) (length rhs) (diagonals N (viewU N c u) n)
   unfolding managed.refusalAt managed.lentTests refusal
   solve-tested = only-own (managed.storageTests n c (length l) (length u)) _
 
-  pub transposed-tested : managed.refusalAt N (lentToSolve n c l u) (solveTransposed rhs) ≡ solveTests n c (length l) (length u) (length rhs) (diagonals N (viewU N c u) n)
+  pub transposed-tested : managed.refusalAt N (lentToSolve n c counter l u) (solveTransposed rhs) ≡ solveTests n c (length l) (length u) (length rhs) (diagonals N (viewU N c u) n)
   unfolding managed.refusalAt managed.lentTests refusal
   transposed-tested = only-own (managed.storageTests n c (length l) (length u)) _
 

@@ -10,12 +10,14 @@ use api::LuMod;
 use api::Readiness;
 use api::RemoveAnswer;
 use api::RemoveResult;
+use api::UpdateResult;
 use refusals::Refusal;
 
 // What stands for no index, no moved row and no moved column.
 const NOTHING: usize = 0xFFFF_FFFF_FFFF_FFFF;
 
-// What a call answers: document 01's number, the state that it hands back, the index that a refused solve names, and what remove moved.
+// What a call answers: document 01's number, the state that it hands back, the index that a refused solve names, what remove moved, and how many pair steps
+// an update made. A sample has no pair steps: they are added up and not compared.
 pub struct Answered {
     pub number: usize,
     pub dimension: usize,
@@ -23,6 +25,7 @@ pub struct Answered {
     pub index: usize,
     pub moved_row: usize,
     pub moved_column: usize,
+    pub steps: usize,
 }
 
 pub fn answers_differ(a: Answered, b: Answered) -> bool {
@@ -44,7 +47,7 @@ pub fn answers_differ(a: Answered, b: Answered) -> bool {
     a.moved_column != b.moved_column
 }
 
-// An answer that moved nothing.
+// An answer that moved nothing and made no pair steps.
 pub fn numbered(number: usize, state: LuMod, index: usize) -> Answered {
     Answered {
         number,
@@ -53,6 +56,7 @@ pub fn numbered(number: usize, state: LuMod, index: usize) -> Answered {
         index,
         moved_row: NOTHING,
         moved_column: NOTHING,
+        steps: 0,
     }
 }
 
@@ -72,6 +76,14 @@ pub fn answer_of(result: CallResult) -> Answered {
     }
 }
 
+pub fn update_answer_of(result: UpdateResult) -> Answered {
+    let state = result.state;
+    let answer = result.answer;
+    let mut answered = answer_of(CallResult { state, answer });
+    answered.steps = result.steps;
+    answered
+}
+
 pub fn remove_answer_of(result: RemoveResult) -> Answered {
     let state = result.state;
     let answer = result.answer;
@@ -86,6 +98,7 @@ pub fn remove_answer_of(result: RemoveResult) -> Answered {
                 index: NOTHING,
                 moved_row: row_number(row),
                 moved_column: column_number(column),
+                steps: result.steps,
             }
         }
         RemoveAnswer::Refused(refusal) => refused(refusal, state),

@@ -7,6 +7,7 @@ use crate::answer::adoption_of;
 use crate::answer::answer_of;
 use crate::answer::readiness_of;
 use crate::answer::remove_answer_of;
+use crate::answer::update_answer_of;
 use crate::buffers::Buffers;
 use api::ColumnIndex;
 use api::LuMod;
@@ -66,6 +67,7 @@ fn update(
     let state = LuMod {
         n: call.dimension,
         capacity: call.capacity,
+        counter: 0,
     };
     if call.function == REMOVE {
         return remove_answer_of(state.remove(
@@ -79,12 +81,12 @@ fn update(
         ));
     }
     if call.function == PUSH {
-        return answer_of(state.push(l, u, y, z, w, first, second, call.diagonal));
+        return update_answer_of(state.push(l, u, y, z, w, first, second, call.diagonal));
     }
     if call.function == REPLACE_ROW {
-        return answer_of(state.replace_row(l, u, y, z, w, RowIndex(call.row), first));
+        return update_answer_of(state.replace_row(l, u, y, z, w, RowIndex(call.row), first));
     }
-    answer_of(state.replace_column(l, u, y, z, w, ColumnIndex(call.column), first))
+    update_answer_of(state.replace_column(l, u, y, z, w, ColumnIndex(call.column), first))
 }
 
 // A call that is no update, with the buffers that it is lent.
@@ -92,6 +94,7 @@ fn other(call: Call, l: &mut [f64], u: &[f64], first: &mut [f64]) -> Answered {
     let state = LuMod {
         n: call.dimension,
         capacity: call.capacity,
+        counter: 0,
     };
     if call.function == SOLVE {
         return answer_of(state.solve_in_place(l, u, first));

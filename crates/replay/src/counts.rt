@@ -3,9 +3,10 @@ use crate::print::number;
 use crate::print::size;
 use crate::print::text;
 
-// How many calls there were, how many differences, and how many answers of each number.
+// How many calls there were, how many pair steps and differences, and how many answers of each number.
 pub struct Counts {
     pub calls: u64,
+    pub steps: u64,
     pub differences: u64,
     pub answers: [u64; 11],
 }
@@ -14,10 +15,11 @@ fn more(n: u64) -> u64 {
     std::num::wrapping_add_u64(n, 1)
 }
 
-// Counts a call and its answer.
-pub fn count(before: Counts, number: usize) -> Counts {
+// Counts a call, its pair steps and its answer.
+pub fn count(before: Counts, number: usize, steps: usize) -> Counts {
     let mut counts = before;
     counts.calls = more(counts.calls);
+    counts.steps = std::num::wrapping_add_u64(counts.steps, steps as u64);
     if number < 11 {
         counts.answers[number] = more(counts.answers[number]);
     }
@@ -55,7 +57,9 @@ pub fn summary(lists: usize, counts: Counts) {
     size(lists);
     text(b" lists, ");
     number(counts.calls);
-    text(b" calls, refusals 1 to 10:");
+    text(b" calls, ");
+    number(counts.steps);
+    text(b" pair steps, refusals 1 to 10:");
     refusals(counts);
     text(b", ");
     number(counts.differences);

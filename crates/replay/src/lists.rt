@@ -103,7 +103,7 @@ fn compare(
     let other_answer = answers_differ(answer, expected);
     let stored = placed(data, next.factors_at, next.dimension, capacity, buffers);
     let other_factors = factors_differ(buffers, stored);
-    let counts = count(before, answer.number);
+    let counts = count(before, answer.number, answer.steps);
     let counts = note(list, call, other_answer, b": another answer\n", counts);
     let counts = note(list, call, other_factors, b": other factors\n", counts);
     note(
@@ -191,6 +191,7 @@ fn replay_lists(data: &[u8], lists: usize) -> Replayed {
     };
     let mut counts = Counts {
         calls: 0,
+        steps: 0,
         differences: 0,
         answers: [0; 11],
     };

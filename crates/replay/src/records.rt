@@ -67,6 +67,7 @@ fn read_answer(data: &[u8], at: usize, capacity: usize) -> Answered {
         index: size(data, at, 2),
         moved_row: size(data, at, 3),
         moved_column: size(data, at, 4),
+        steps: 0,
     }
 }
 

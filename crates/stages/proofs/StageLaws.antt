@@ -10,16 +10,19 @@ use lib.ListN.{length, set}
 use lib.Seq.{getD-set-same, getD-set-other}
 use borrow.Author.Tests.{lt-ltb, le-ltb}
 use Rattle.numbers.specs.NumberForm.{NumberForm}
-use Rattle.machine.specs.Tables.{Vector, Work, stateOf, put}
-use Rattle.machine.specs.Products.{entry, unset}
+use Rattle.machine.specs.Tables.{Vector, Table, Work, stateOf, put}
+use Rattle.machine.specs.Products.{entry}
 use Rattle.machine.specs.Forward.{forward}
 use Rattle.machine.specs.Backward.{trim, backward}
-use Rattle.machine.specs.Updates.{putColumn, putSelected, restoredFrom, restored, columnDropped}
+use Rattle.machine.specs.Updates.{putColumn, putSelected, lastColumnRead, restoredFrom, restored, columnDropped}
 use Rattle.machine.specs.Agreement.{Agree, AgreeWithin}
+use Rattle.machine.specs.Counts.{forwardCount, backwardCount, restoredFromCount, restoredCount, columnDroppedCount}
 use Rattle.machine.proofs.Choice.{neqb→ne, pick, within-from, within-less, within-trans}
 use Rattle.machine.proofs.Forward.{forward-same}
 use Rattle.machine.proofs.Backward.{trim-le, trim-ge, backward-same}
 use Rattle.machine.proofs.Updates.{restored-same}
+use Rattle.machine.proofs.CountLimits.{forward-count-le, backward-count-le, column-dropped-count-le}
+use Rattle.machine.proofs.Counts.{forward-count-same, backward-count-same, restored-count-same}
 use Rattle.storage.specs.Places.{lIndex, uIndex, LPlace, UPlace}
 use Rattle.storage.specs.Views.{viewL, viewU, Kept}
 use Rattle.storage.proofs.Kept.{kept-all, kept-set, kept-then, kept-more}
@@ -108,6 +111,26 @@ module _ (N : NumberForm) where
         → AgreeWithin n start columns n (workOf N c l′ u′ y′ v′) (backward N E T start selected columns S)
     backward-agrees c n start selected columns lo l u y v hk hs hl p a = within-trans (p .agree) (backward-same N E T n columns hk start selected lo hl hs a)
 
+    -- and they count what it counts
+    pub forward-counted : (c n start last columns : ℕ) (l u y v : List Value) {S : Work Value} {a : ℕ} → columns ≤ n → last < n → last ≤ columns
+        → a ≡ forwardCount N E T start last columns (workOf N c l u y []) → AgreeWithin n start columns 0 (workOf N c l u y v) S → a ≡ forwardCount N E T start last columns S
+    forward-counted c n start last columns l u y v hk hl hl′ is-a h =
+        is-a ∙ forward-count-same N E T n columns 0 hk start last hl hl′ (record { L = h .L; U = h .U; y = h .y; v = λ j g. absurd (omega arith) })
+
+    pub backward-counted : (c n start selected columns lo : ℕ) (l u y v : List Value) {S : Work Value} {a : ℕ} → columns ≤ n → selected < n
+        → a ≡ backwardCount N E T start selected columns (workOf N c l u y v) → AgreeWithin n lo columns n (workOf N c l u y v) S → a ≡ backwardCount N E T start selected columns S
+    backward-counted c n start selected columns lo l u y v hk hl is-a h = is-a ∙ backward-count-same N E T n columns hk start selected lo hl h
+
+    -- one for each row at most
+    pub forward-counted-le : (start last columns : ℕ) (S : Work Value) {a : ℕ} → a ≡ forwardCount N E T start last columns S → a ≤ last - start
+    forward-counted-le start last columns S is-a = omega (arith, is-a, forward-count-le N E T start last columns S)
+
+    pub backward-counted-le : (start selected columns : ℕ) (S : Work Value) {a : ℕ} → a ≡ backwardCount N E T start selected columns S → a ≤ selected - start
+    backward-counted-le start selected columns S is-a = omega (arith, is-a, backward-count-le N E T start selected columns S)
+
+    pub column-dropped-counted-le : (p : ℕ) (L U : Table Value) (k : ℕ) {a : ℕ} → a ≡ columnDroppedCount N E T p L U k → a ≤ 2 * (p - k)
+    column-dropped-counted-le p L U k is-a = omega (arith, is-a, column-dropped-count-le N E T p L U k)
+
     -- y(k) takes v(selected)
     selected-put : (c n k s columns : ℕ) (l u y v : List Value) {S : Work Value} → columns ≤ length y → k < columns → s < n → AgreeWithin n (suc k) columns n (workOf N c l u y v) S
         → AgreeWithin n k columns n (workOf N c l u (set y k (entry N v s)) v) (putSelected k s S)
@@ -123,49 +146,91 @@ module _ (N : NumberForm) where
 
     -- ---- restore
 
-    pub restored-performed : (c n k last columns s : ℕ) (l u y w y₁ w₁ : List Value) {l₁ u₁ l₂ u₂ y₂ : List Value} → columns ≤ n → columns ≤ length y₁ → k < last → last < n → last ≤ columns
-        → s ≡ trim N E (suc k) last (entry N w) → Performed N c n (suc k) columns n (backward N E T (suc k) s columns) l u y w l₁ u₁ y₁ w₁
-        → Performed N c n 0 columns 0 (forward N E T k s columns) l₁ u₁ (set y₁ k (entry N w₁ s)) [] l₂ u₂ y₂ [] → Performed N c n k columns 0 (restored N E T k last columns) l u y w l₂ u₂ y₂ w₁
-    unfolding restored restoredFrom
-    restored-performed c n k last columns s l u y w y₁ w₁ {l₁} {u₁} hc hy hk hl hl′ is-s p q =
-        let a = trim-le N E (suc k) last (entry N w) in
-        let b = trim-ge N E (suc k) last (entry N w) hk in
-        record {
-          agree = rw (← is-s) (forward-agrees c n k s columns l₁ u₁ (set y₁ k (entry N w₁ s)) w₁ hc (omega arith) (omega arith) (omega arith) q
-              (within-less columns 0 (omega arith) (omega arith) (selected-put c n k s columns l₁ u₁ y₁ w₁ hy (omega arith) (omega arith) (p .agree))));
-          l-kept = kept-then N (p .l-kept) (q .l-kept);
-          u-kept = kept-then N (p .u-kept) (q .u-kept);
-          y-kept = kept-then N (p .y-kept) (kept-then N (kept-set N y₁ k (entry N w₁ s) (omega arith)) (q .y-kept));
-          v-kept = p .v-kept;
-        }
+    module _ (c n k last columns s : ℕ) (l u y w y₁ w₁ : List Value) {l₁ u₁ : List Value} (hc : columns ≤ n) (hy : columns ≤ length y₁) (hk : k < last) (hl : last < n) (hl′ : last ≤ columns)
+        (is-s : s ≡ trim N E (suc k) last (entry N w)) (p : Performed N c n (suc k) columns n (backward N E T (suc k) s columns) l u y w l₁ u₁ y₁ w₁) where
+      selected-below : s < n
+      selected-below = omega (arith, trim-le N E (suc k) last (entry N w))
+
+      -- Forward's start
+      row-put : AgreeWithin n k columns 0 (workOf N c l₁ u₁ (set y₁ k (entry N w₁ s)) w₁) (putSelected k s (backward N E T (suc k) s columns (workOf N c l u y w)))
+      row-put = within-less columns 0 (omega arith) (omega arith) (selected-put c n k s columns l₁ u₁ y₁ w₁ hy (omega arith) selected-below (p .agree))
+
+      restored-performed : {l₂ u₂ y₂ : List Value} → Performed N c n 0 columns 0 (forward N E T k s columns) l₁ u₁ (set y₁ k (entry N w₁ s)) [] l₂ u₂ y₂ []
+          → Performed N c n k columns 0 (restored N E T k last columns) l u y w l₂ u₂ y₂ w₁
+      unfolding restored restoredFrom
+      restored-performed q =
+          let a = trim-le N E (suc k) last (entry N w) in
+          let b = trim-ge N E (suc k) last (entry N w) hk in
+          record {
+            agree = rw (← is-s) (forward-agrees c n k s columns l₁ u₁ (set y₁ k (entry N w₁ s)) w₁ hc (omega arith) (omega arith) (omega arith) q row-put);
+            l-kept = kept-then N (p .l-kept) (q .l-kept);
+            u-kept = kept-then N (p .u-kept) (q .u-kept);
+            y-kept = kept-then N (p .y-kept) (kept-then N (kept-set N y₁ k (entry N w₁ s) (omega arith)) (q .y-kept));
+            v-kept = p .v-kept;
+          }
+
+      restored-counted : {a b : ℕ} → a ≡ backwardCount N E T (suc k) s columns (workOf N c l u y w) → b ≡ forwardCount N E T k s columns (workOf N c l₁ u₁ (set y₁ k (entry N w₁ s)) [])
+          → a + b ≡ restoredCount N E T k last columns (workOf N c l u y w)
+      unfolding restoredCount restoredFromCount
+      restored-counted is-a is-b =
+          let g = trim-le N E (suc k) last (entry N w) in
+          let f = forward-counted c n k s columns l₁ u₁ (set y₁ k (entry N w₁ s)) w₁ hc (omega arith) (omega arith) is-b row-put in
+          rw (← is-s) (λ t. is-a t + f t)
+
+      -- the tables, and how many pair steps they took
+      pub restored-outcome : {l₂ u₂ y₂ : List Value} {a b : ℕ} → a ≡ backwardCount N E T (suc k) s columns (workOf N c l u y w)
+          → Performed N c n 0 columns 0 (forward N E T k s columns) l₁ u₁ (set y₁ k (entry N w₁ s)) [] l₂ u₂ y₂ [] × (b ≡ forwardCount N E T k s columns (workOf N c l₁ u₁ (set y₁ k (entry N w₁ s)) []))
+          → Performed N c n k columns 0 (restored N E T k last columns) l u y w l₂ u₂ y₂ w₁ × (a + b ≡ restoredCount N E T k last columns (workOf N c l u y w))
+      restored-outcome is-a ahead = (restored-performed (ahead .0), restored-counted is-a (ahead .1))
 
     -- ---- a column dropped
 
     module _ (c n k : ℕ) (l u y w : List Value) where
-      pub column-dropped : (u₁ w₁ : List Value) {l′ u′ y′ w′ : List Value} → n ≤ c → k < n - 1 → Written N (λ i. i) (n - 1 + 1) (λ i. viewU N c u i (n - 1)) w w₁
-          → Written N (λ i. uIndex c i k) (k + 1) (entry N w₁) u u₁ → Performed N c n k (n - 1) 0 (restored N E T k (n - 1) (n - 1)) l u₁ y w₁ l′ u′ y′ w′
-          → Updated N c n n (columnDropped N E T (n - 1) (viewL N c l) (viewU N c u) k) l u y [] w l′ u′ y′ [] w′
-      unfolding columnDropped
-      column-dropped u₁ w₁ {l′} {u′} {y′} {w′} hc hk ws us r =
-          let start = column-put c n (n - 1) (n - 1) k l u y w₁ {R = record { L = viewL N c l; U = viewU N c u; y = unset N; v = λ i. viewU N c u i (n - 1) }} hc (omega arith) us
-          (record { L = λ i j a b. refl; U = λ i j a b. refl; y = λ j a b. absurd (omega arith); v = λ j h. ws .value j (omega arith) }) in
-          record {
-            agree = rw (lt-ltb k (n - 1) hk) (factors-agree n c l′ u′ y′ w′ (omega arith) (within-trans (r .agree)
-                (within-less (n - 1) 0 (omega arith) (omega arith) (restored-same N E T n (n - 1) k (omega arith) hk (n - 1) (n - 1) hk (omega arith) (omega arith) start))));
-            l-kept = r .l-kept;
-            u-kept = kept-then N (u-column-kept c k (k + 1) (omega arith) (omega arith) us n (omega arith)) (r .u-kept);
-            y-kept = r .y-kept;
-            z-kept = kept-all N;
-            w-kept = kept-then N (kept-more N (λ q a. omega arith) (ws .kept)) (r .v-kept);
-          }
+      module _ (u₁ w₁ : List Value) (hc : n ≤ c) (hk : k < n - 1) (ws : Written N (λ i. i) (n - 1 + 1) (λ i. viewU N c u i (n - 1)) w w₁)
+          (us : Written N (λ i. uIndex c i k) (k + 1) (entry N w₁) u u₁) where
+        -- U's last column in w and in the place of column k
+        last-column-moved : AgreeWithin n (n - 1) (n - 1) n (workOf N c l u₁ y w₁) (putColumn k (lastColumnRead N (n - 1) (viewL N c l) (viewU N c u)))
+        last-column-moved =
+            column-put c n (n - 1) (n - 1) k l u y w₁ {R = lastColumnRead N (n - 1) (viewL N c l) (viewU N c u)} hc (omega arith) us
+            (record { L = λ i j a b. refl; U = λ i j a b. refl; y = λ j a b. absurd (omega arith); v = λ j h. ws .value j (omega arith) })
 
-      pub last-column-dropped : n - 1 ≤ k → Updated N c n n (columnDropped N E T (n - 1) (viewL N c l) (viewU N c u) k) l u y [] w l u y [] w
-      unfolding columnDropped
-      last-column-dropped h = record {
-        agree = rw (le-ltb k (n - 1) h) (record { n = refl; L = λ i j a b. refl; U = λ i j a b. refl });
-        l-kept = kept-all N;
-        u-kept = kept-all N;
-        y-kept = kept-all N;
-        z-kept = kept-all N;
-        w-kept = kept-all N;
-      }
+        column-dropped : {l′ u′ y′ w′ : List Value} → Performed N c n k (n - 1) 0 (restored N E T k (n - 1) (n - 1)) l u₁ y w₁ l′ u′ y′ w′
+            → Updated N c n n (columnDropped N E T (n - 1) (viewL N c l) (viewU N c u) k) l u y [] w l′ u′ y′ [] w′
+        unfolding columnDropped
+        column-dropped {l′} {u′} {y′} {w′} r = record {
+          agree = rw (lt-ltb k (n - 1) hk) (factors-agree n c l′ u′ y′ w′ (omega arith) (within-trans (r .agree)
+              (within-less (n - 1) 0 (omega arith) (omega arith) (restored-same N E T n (n - 1) k (omega arith) hk (n - 1) (n - 1) hk (omega arith) (omega arith) last-column-moved))));
+          l-kept = r .l-kept;
+          u-kept = kept-then N (u-column-kept c k (k + 1) (omega arith) (omega arith) us n (omega arith)) (r .u-kept);
+          y-kept = r .y-kept;
+          z-kept = kept-all N;
+          w-kept = kept-then N (kept-more N (λ q a. omega arith) (ws .kept)) (r .v-kept);
+        }
+
+        column-dropped-counted : {a : ℕ} → a ≡ restoredCount N E T k (n - 1) (n - 1) (workOf N c l u₁ y w₁) → a ≡ columnDroppedCount N E T (n - 1) (viewL N c l) (viewU N c u) k
+        unfolding columnDroppedCount
+        column-dropped-counted is-a =
+            rw (lt-ltb k (n - 1) hk)
+            (is-a ∙ restored-count-same N E T n (n - 1) k (omega arith) hk (n - 1) (n - 1) hk (omega arith) (omega arith) last-column-moved)
+
+        -- the factors, and how many pair steps they took
+        pub column-dropped-outcome : {l′ u′ y′ w′ : List Value} {a : ℕ}
+            → Performed N c n k (n - 1) 0 (restored N E T k (n - 1) (n - 1)) l u₁ y w₁ l′ u′ y′ w′ × (a ≡ restoredCount N E T k (n - 1) (n - 1) (workOf N c l u₁ y w₁))
+            → Updated N c n n (columnDropped N E T (n - 1) (viewL N c l) (viewU N c u) k) l u y [] w l′ u′ y′ [] w′ × (a ≡ columnDroppedCount N E T (n - 1) (viewL N c l) (viewU N c u) k)
+        column-dropped-outcome r = (column-dropped (r .0), column-dropped-counted (r .1))
+
+      -- the last column: nothing is done, and no pair step is made
+      pub last-column-dropped : n - 1 ≤ k
+          → Updated N c n n (columnDropped N E T (n - 1) (viewL N c l) (viewU N c u) k) l u y [] w l u y [] w × (0 ≡ columnDroppedCount N E T (n - 1) (viewL N c l) (viewU N c u) k)
+      unfolding columnDropped columnDroppedCount
+      last-column-dropped h = (
+        record {
+          agree = rw (le-ltb k (n - 1) h) (record { n = refl; L = λ i j a b. refl; U = λ i j a b. refl });
+          l-kept = kept-all N;
+          u-kept = kept-all N;
+          y-kept = kept-all N;
+          z-kept = kept-all N;
+          w-kept = kept-all N;
+        },
+        rw (le-ltb k (n - 1) h),
+      )

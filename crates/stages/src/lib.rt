@@ -1,4 +1,5 @@
 // Stages of the updates of the factors.
+ghost use mathlib.Core.Path.{_≡_};
 ghost use mathlib.Core.List.{[]};
 ghost use Prim.Native.Nat.{_-_, _*_, _^_, _≤_, _<_};
 ghost use lib.ListN.{length};
@@ -6,8 +7,9 @@ ghost use lib.Ieee.{binary64};
 ghost use Rattle.numbers.specs.NumberForm.{ieee};
 ghost use Rattle.numbers.specs.Tolerances.{tinyOf};
 ghost use Rattle.machine.specs.Updates.{restored, columnDropped};
+ghost use Rattle.machine.specs.Counts.{restoredCount, columnDroppedCount};
 ghost use Rattle.storage.specs.Views.{viewL, viewU};
-ghost use Rattle.buffers.specs.Performed.{Room, Performed};
+ghost use Rattle.buffers.specs.Performed.{workOf, Room, Performed};
 ghost use Rattle.stages.specs.Stages.{withUnitRow, LUpdated, Updated};
 use backward::backward;
 use backward::trim;
@@ -29,6 +31,7 @@ pub fn set_unit_row(row: usize, column: usize, n: usize, stride: usize, l: &mut 
 }
 
 // Restores the triangle after U's column was put in place, w holding what the column is to be: Backward above `last`, and Forward on the row that it leaves.
+// It answers how many pair steps it made.
 pub fn restore(
     column: usize,
     last: usize,
@@ -40,13 +43,15 @@ pub fn restore(
     y: &mut [f64],
     w: &mut [f64],
     numerics: Numerics,
-)
+) -> usize
     requires { ⌜ Room (ieee binary64) stride n (now l) (now u) × ((n ≤ length (now y)) × ((n ≤ length (now w)) × ((column < last) × ((last < n) × ((last ≤ columns) × (columns ≤ n)))))) ⌝ }
-    ensures { λ _. ⌜ Performed (ieee binary64) stride n column columns 0 (restored (ieee binary64) (numerics .epsilon) (tinyOf binary64 (numerics .epsilon) (numerics .«update_tiny»)) column last columns)
-        (now (l .entry)) (now (u .entry)) (now (y .entry)) (now (w .entry)) (now (l .exit)) (now (u .exit)) (now (y .exit)) (now (w .exit)) ⌝ }
+    ensures { λ r. ⌜ Performed (ieee binary64) stride n column columns 0 (restored (ieee binary64) (numerics .epsilon) (tinyOf binary64 (numerics .epsilon) (numerics .«update_tiny»)) column last columns)
+        (now (l .entry)) (now (u .entry)) (now (y .entry)) (now (w .entry)) (now (l .exit)) (now (u .exit)) (now (y .exit)) (now (w .exit))
+        × (r ≡ restoredCount (ieee binary64) (numerics .epsilon) (tinyOf binary64 (numerics .epsilon) (numerics .«update_tiny»)) column last columns
+        (workOf (ieee binary64) stride (now (l .entry)) (now (u .entry)) (now (y .entry)) (now (w .entry)))) ⌝ }
 {
     let selected = trim(column + 1, last, w, numerics.epsilon);
-    backward(
+    let backward_steps = backward(
         column + 1,
         selected,
         n,
@@ -59,10 +64,12 @@ pub fn restore(
         numerics,
     );
     y[column] = w[selected];
-    forward(column, selected, n, columns, stride, l, u, y, numerics);
+    let forward_steps = forward(column, selected, n, columns, stride, l, u, y, numerics);
+    backward_steps + forward_steps
 }
 
 // The column that leaves with the last one: unless it is the last, U's last column takes its place, and the triangle is restored.
+// It answers how many pair steps it made.
 pub fn drop_column(
     column: usize,
     n: usize,
@@ -72,16 +79,19 @@ pub fn drop_column(
     y: &mut [f64],
     w: &mut [f64],
     numerics: Numerics,
-)
+) -> usize
     requires { ⌜ Room (ieee binary64) stride n (now l) (now u) × ((n ≤ length (now y)) × ((n ≤ length (now w)) × (column < n))) ⌝ }
-    ensures { λ _. ⌜ Updated (ieee binary64) stride n n (columnDropped (ieee binary64) (numerics .epsilon) (tinyOf binary64 (numerics .epsilon) (numerics .«update_tiny»)) (n - 1)
+    ensures { λ r. ⌜ Updated (ieee binary64) stride n n (columnDropped (ieee binary64) (numerics .epsilon) (tinyOf binary64 (numerics .epsilon) (numerics .«update_tiny»)) (n - 1)
         (viewL (ieee binary64) stride (now (l .entry))) (viewU (ieee binary64) stride (now (u .entry))) column)
-        (now (l .entry)) (now (u .entry)) (now (y .entry)) [] (now (w .entry)) (now (l .exit)) (now (u .exit)) (now (y .exit)) [] (now (w .exit)) ⌝ }
+        (now (l .entry)) (now (u .entry)) (now (y .entry)) [] (now (w .entry)) (now (l .exit)) (now (u .exit)) (now (y .exit)) [] (now (w .exit))
+        × (r ≡ columnDroppedCount (ieee binary64) (numerics .epsilon) (tinyOf binary64 (numerics .epsilon) (numerics .«update_tiny»)) (n - 1)
+        (viewL (ieee binary64) stride (now (l .entry))) (viewU (ieee binary64) stride (now (u .entry))) column) ⌝ }
 {
     let last = n - 1;
     if column < last {
         read_u_column(u, last, stride, w);
         write_u_column(u, column, column + 1, stride, w);
-        restore(column, last, n, last, stride, l, u, y, w, numerics);
+        return restore(column, last, n, last, stride, l, u, y, w, numerics);
     }
+    0
 }

@@ -11,6 +11,7 @@ use Rattle.machine.specs.Products.{entry, product}
 use Rattle.machine.specs.Forward.{forward}
 use Rattle.machine.specs.Updates.{bordered, pushed}
 use Rattle.machine.specs.Agreement.{AgreeWithin}
+use Rattle.machine.specs.Counts.{forwardCount, pushedCount}
 use Rattle.machine.proofs.Choice.{neqb→ne, choose, pick}
 use Rattle.storage.specs.Places.{lIndex, uIndex}
 use Rattle.storage.specs.Views.{viewL, viewU}
@@ -19,7 +20,7 @@ use Rattle.storage.proofs.Places.{uIndex-injective}
 use Rattle.ranges.specs.Written.{Written}
 use Rattle.buffers.specs.Performed.{workOf, Performed}
 use Rattle.stages.specs.Stages.{withUnitRow, LUpdated, Updated}
-use Rattle.stages.proofs.StageLaws.{l-column, l-column-kept, u-column-other, u-column-kept, factors-agree, forward-agrees}
+use Rattle.stages.proofs.StageLaws.{l-column, l-column-kept, u-column-other, u-column-kept, factors-agree, forward-agrees, forward-counted}
 
 module _ (N : NumberForm) (E T : N .Value) where
   open NumberForm N using (Value, zero as 𝟎, absent)
@@ -51,7 +52,7 @@ module _ (N : NumberForm) (E T : N .Value) where
       v = λ j h. absurd (omega arith);
     }
 
-    pub push-done : {l′ u′ y′ : List Value} → Performed N c n 0 n 0 (forward N E T 0 (n - 1) n) l₂ (set u₁ d 𝟎) y [] l′ u′ y′ []
+    push-done : {l′ u′ y′ : List Value} → Performed N c n 0 n 0 (forward N E T 0 (n - 1) n) l₂ (set u₁ d 𝟎) y [] l′ u′ y′ []
         → Updated N c n n (pushed N E T (n - 1) (viewL N c l) (viewU N c u) y z (entry N y (n - 1))) l u y z w l′ u′ y′ z w₁
     unfolding pushed
     push-done {l′} {u′} {y′} p = record {
@@ -64,3 +65,15 @@ module _ (N : NumberForm) (E T : N .Value) where
       z-kept = kept-all N;
       w-kept = kept-more N (λ q a. omega arith) (ws .kept);
     }
+
+    push-counted : {a : ℕ} → a ≡ forwardCount N E T 0 (n - 1) n (workOf N c l₂ (set u₁ d 𝟎) y []) → a ≡ pushedCount N E T (n - 1) (viewL N c l) (viewU N c u) y z (entry N y (n - 1))
+    unfolding pushedCount
+    push-counted is-a =
+        let e : suc (n - 1) ≡ n = omega arith in rw e (forward-counted N E T c n 0 (n - 1) n l₂ (set u₁ d 𝟎) y [] (omega arith) (omega arith) (omega arith) is-a border-agrees)
+
+    -- the factors, and how many pair steps they took
+    pub push-outcome : {l′ u′ y′ : List Value} {a : ℕ}
+        → Performed N c n 0 n 0 (forward N E T 0 (n - 1) n) l₂ (set u₁ d 𝟎) y [] l′ u′ y′ [] × (a ≡ forwardCount N E T 0 (n - 1) n (workOf N c l₂ (set u₁ d 𝟎) y []))
+        → Updated N c n n (pushed N E T (n - 1) (viewL N c l) (viewU N c u) y z (entry N y (n - 1))) l u y z w l′ u′ y′ z w₁
+        × (a ≡ pushedCount N E T (n - 1) (viewL N c l) (viewU N c u) y z (entry N y (n - 1)))
+    push-outcome ahead = (push-done (ahead .0), push-counted (ahead .1))

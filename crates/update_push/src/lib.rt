@@ -1,4 +1,5 @@
 // Appending a row and a column to the factors, on lent slices. The workspaces' first n entries are scratch.
+ghost use mathlib.Core.Path.{_≡_};
 ghost use Prim.Native.Nat.{_-_, _≤_, _<_};
 ghost use lib.ListN.{length};
 ghost use lib.Ieee.{binary64};
@@ -6,6 +7,7 @@ ghost use Rattle.numbers.specs.NumberForm.{ieee};
 ghost use Rattle.numbers.specs.Tolerances.{tinyOf};
 ghost use Rattle.machine.specs.Products.{entry};
 ghost use Rattle.machine.specs.Updates.{pushed};
+ghost use Rattle.machine.specs.Counts.{pushedCount};
 ghost use Rattle.storage.specs.Views.{viewL, viewU};
 ghost use Rattle.buffers.specs.Performed.{Room};
 ghost use Rattle.stages.specs.Stages.{Updated};
@@ -18,6 +20,7 @@ use storage::u_index;
 use u_columns::write_u_column;
 
 // Appends a row and a column to the matrix; n is the new dimension, y holds the row with the diagonal behind it, and z the column.
+// It answers how many pair steps it made.
 pub fn push(
     n: usize,
     stride: usize,
@@ -27,11 +30,13 @@ pub fn push(
     z: &[f64],
     w: &mut [f64],
     numerics: Numerics,
-)
+) -> usize
     requires { ⌜ Room (ieee binary64) stride n (now l) (now u) × ((n ≤ length (now y)) × ((n - 1 ≤ length (now z)) × ((n - 1 ≤ length (now w)) × (0 < n)))) ⌝ }
-    ensures { λ _. ⌜ Updated (ieee binary64) stride n n (pushed (ieee binary64) (numerics .epsilon) (tinyOf binary64 (numerics .epsilon) (numerics .«update_tiny»)) (n - 1)
+    ensures { λ r. ⌜ Updated (ieee binary64) stride n n (pushed (ieee binary64) (numerics .epsilon) (tinyOf binary64 (numerics .epsilon) (numerics .«update_tiny»)) (n - 1)
         (viewL (ieee binary64) stride (now (l .entry))) (viewU (ieee binary64) stride (now (u .entry))) (now (y .entry)) (now (z .entry)) (entry (ieee binary64) (now (y .entry)) (n - 1)))
-        (now (l .entry)) (now (u .entry)) (now (y .entry)) (now (z .entry)) (now (w .entry)) (now (l .exit)) (now (u .exit)) (now (y .exit)) (now (z .entry)) (now (w .exit)) ⌝ }
+        (now (l .entry)) (now (u .entry)) (now (y .entry)) (now (z .entry)) (now (w .entry)) (now (l .exit)) (now (u .exit)) (now (y .exit)) (now (z .entry)) (now (w .exit))
+        × (r ≡ pushedCount (ieee binary64) (numerics .epsilon) (tinyOf binary64 (numerics .epsilon) (numerics .«update_tiny»)) (n - 1)
+        (viewL (ieee binary64) stride (now (l .entry))) (viewU (ieee binary64) stride (now (u .entry))) (now (y .entry)) (now (z .entry)) (entry (ieee binary64) (now (y .entry)) (n - 1))) ⌝ }
 {
     let last = n - 1;
     l_product(last, stride, l, z, w);
@@ -40,5 +45,5 @@ pub fn push(
     write_u_column(u, last, last, stride, w);
     let corner = u_index(last, last, stride);
     u[corner] = 0.0;
-    forward(0, last, n, n, stride, l, u, y, numerics);
+    forward(0, last, n, n, stride, l, u, y, numerics)
 }

@@ -1,10 +1,12 @@
 // Removing a row and a column of the matrix, on lent slices. The workspaces' first n entries are scratch.
+ghost use mathlib.Core.Path.{_≡_};
 ghost use Prim.Native.Nat.{_-_, _≤_, _<_};
 ghost use lib.ListN.{length};
 ghost use lib.Ieee.{binary64};
 ghost use Rattle.numbers.specs.NumberForm.{ieee};
 ghost use Rattle.numbers.specs.Tolerances.{tinyOf};
 ghost use Rattle.machine.specs.Updates.{removed};
+ghost use Rattle.machine.specs.Counts.{removedCount};
 ghost use Rattle.storage.specs.Views.{viewL, viewU};
 ghost use Rattle.buffers.specs.Performed.{Room};
 ghost use Rattle.stages.specs.Stages.{Updated};
@@ -15,6 +17,7 @@ use numerics::tolerance::Numerics;
 use stages::drop_column;
 
 // Removes a row and a column of the matrix: the last of each moves to the place that becomes free. The new dimension is n - 1.
+// It answers how many pair steps it made.
 pub fn remove(
     row: usize,
     column: usize,
@@ -26,15 +29,18 @@ pub fn remove(
     z: &mut [f64],
     w: &mut [f64],
     numerics: Numerics,
-)
+) -> usize
     requires { ⌜ Room (ieee binary64) stride n (now l) (now u) × ((n ≤ length (now y)) × ((n ≤ length (now z)) × ((n ≤ length (now w)) × ((row < n) × (column < n))))) ⌝ }
-    ensures { λ _. ⌜ Updated (ieee binary64) stride n (n - 1) (removed (ieee binary64) (numerics .epsilon) (tinyOf binary64 (numerics .epsilon) (numerics .«update_tiny»)) (n - 1)
+    ensures { λ r. ⌜ Updated (ieee binary64) stride n (n - 1) (removed (ieee binary64) (numerics .epsilon) (tinyOf binary64 (numerics .epsilon) (numerics .«update_tiny»)) (n - 1)
         (viewL (ieee binary64) stride (now (l .entry))) (viewU (ieee binary64) stride (now (u .entry))) row column)
-        (now (l .entry)) (now (u .entry)) (now (y .entry)) (now (z .entry)) (now (w .entry)) (now (l .exit)) (now (u .exit)) (now (y .exit)) (now (z .exit)) (now (w .exit)) ⌝ }
+        (now (l .entry)) (now (u .entry)) (now (y .entry)) (now (z .entry)) (now (w .entry)) (now (l .exit)) (now (u .exit)) (now (y .exit)) (now (z .exit)) (now (w .exit))
+        × (r ≡ removedCount (ieee binary64) (numerics .epsilon) (tinyOf binary64 (numerics .epsilon) (numerics .«update_tiny»)) (n - 1)
+        (viewL (ieee binary64) stride (now (l .entry))) (viewU (ieee binary64) stride (now (u .entry))) row column) ⌝ }
 {
-    drop_column(column, n, stride, l, u, y, w, numerics);
+    let column_steps = drop_column(column, n, stride, l, u, y, w, numerics);
     let last = n - 1;
     read_l_column(l, row, n, stride, w);
     copy_l_column(l, last, row, n, stride);
-    backward(0, last, n, last, stride, l, u, z, w, numerics);
+    let row_steps = backward(0, last, n, last, stride, l, u, z, w, numerics);
+    column_steps + row_steps
 }

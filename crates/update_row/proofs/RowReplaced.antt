@@ -2,16 +2,17 @@
 use mathlib.Core.Path.{_≡_, refl, _∙_}
 use mathlib.Core.Bool.{Bool, true, false, cond}
 use mathlib.Core.List.{List, []}
-use Prim.Native.Nat.{ℕ, zero, suc, _-_, _≤_, _<_}
+use Prim.Native.Nat.{ℕ, zero, suc, _+_, _-_, _≤_, _<_}
 use native.Mathlib.Omega.{arith}
 use lib.Dec.{eqb, eqb→eq}
 use Rattle.numbers.specs.NumberForm.{NumberForm}
 use Rattle.machine.specs.Tables.{Table}
-use Rattle.machine.specs.Products.{entry, unset}
+use Rattle.machine.specs.Products.{entry}
 use Rattle.machine.specs.Forward.{forward, forwardRows, copyDenseToRow}
 use Rattle.machine.specs.Backward.{trim, backward}
-use Rattle.machine.specs.Updates.{bordered, columnCleared, unitRow, pushed, rowReplacedFrom, rowReplaced}
+use Rattle.machine.specs.Updates.{bordered, columnCleared, columnTaken, unitRow, pushed, rowReplacedFrom, rowReplaced}
 use Rattle.machine.specs.Agreement.{AgreeWithin}
+use Rattle.machine.specs.Counts.{forwardCount, forwardRowsCount, backwardCount, pushedCount, rowReplacedFromCount, rowReplacedCount}
 use Rattle.machine.proofs.Choice.{choose, within-from, within-trans}
 use Rattle.machine.proofs.Backward.{trim-same, trim-le}
 use Rattle.storage.specs.Places.{lIndex}
@@ -20,7 +21,7 @@ use Rattle.storage.proofs.Kept.{kept-then, kept-more}
 use Rattle.ranges.specs.Written.{Written}
 use Rattle.buffers.specs.Performed.{workOf, Performed}
 use Rattle.stages.specs.Stages.{withUnitRow, LUpdated, Updated}
-use Rattle.stages.proofs.StageLaws.{l-column, l-column-kept, factors-agree, forward-agrees, backward-agrees}
+use Rattle.stages.proofs.StageLaws.{l-column, l-column-kept, factors-agree, forward-agrees, backward-agrees, forward-counted, backward-counted, forward-counted-le, backward-counted-le}
 
 module _ (N : NumberForm) (E T : N .Value) where
   open NumberForm N using (Value, zero as 𝟎)
@@ -52,23 +53,32 @@ module _ (N : NumberForm) (E T : N .Value) where
     selected-below : s < n
     selected-below = omega (arith, trim-le N E 0 (n - 1) (entry N w₁), is-s)
 
-    row-agrees : AgreeWithin n 0 n 0 (workOf N c l₄ u₃ y₃ []) (rowReplacedFrom N E T n (viewL N c l) (viewU N c u) r y s)
-    unfolding rowReplacedFrom unitRow columnCleared
-    row-agrees =
-        let hs = selected-below in
-        let start : AgreeWithin n n n n (workOf N c l₁ u z w₁) (record { L = columnCleared N r (viewL N c l); U = viewU N c u; y = unset N; v = λ i. viewL N c l i r }) = record {
-          L = λ i j hi hj. l-column N c r n (omega arith) cleared i j hi (omega arith);
-          U = λ i j a b. refl;
-          y = λ j a b. absurd (omega arith);
-          v = λ j h. ws .value j h;
-        } in
-        let mid = backward-agrees N E T c n 0 s n n l₁ u z w₁ (omega arith) (omega arith) hs p start in
-        forward-agrees N E T c n 0 s n l₃ u₂ y [] (omega arith) (omega arith) hs (omega arith) q (record {
+    -- the column cleared, before Backward
+    row-cleared : AgreeWithin n n n n (workOf N c l₁ u z w₁) (columnTaken N r (viewL N c l) (viewU N c u))
+    unfolding columnCleared
+    row-cleared = record {
+      L = λ i j hi hj. l-column N c r n (omega arith) cleared i j hi (omega arith);
+      U = λ i j a b. refl;
+      y = λ j a b. absurd (omega arith);
+      v = λ j h. ws .value j h;
+    }
+
+    -- the unit row in its place, before Forward
+    row-placed : AgreeWithin n 0 n 0 (workOf N c l₃ u₂ y [])
+        (unitRow N s r y (backward N E T 0 s n (columnTaken N r (viewL N c l) (viewU N c u))))
+    unfolding unitRow
+    row-placed =
+        let mid = backward-agrees N E T c n 0 s n n l₁ u z w₁ (omega arith) (omega arith) selected-below p row-cleared in
+        record {
           L = λ i j hi hj. unit .value i j hi hj ∙ choose (eqb i s) (λ _. refl) (λ _. mid .L i j hi hj);
           U = mid .U;
           y = λ j a b. refl;
           v = λ j h. absurd (omega arith);
-        })
+        }
+
+    row-agrees : AgreeWithin n 0 n 0 (workOf N c l₄ u₃ y₃ []) (rowReplacedFrom N E T n (viewL N c l) (viewU N c u) r y s)
+    unfolding rowReplacedFrom
+    row-agrees = forward-agrees N E T c n 0 s n l₃ u₂ y [] (omega arith) (omega arith) selected-below (omega (arith, selected-below)) q row-placed
 
     chosen : s ≡ trim N E 0 (n - 1) (λ i. viewL N c l i r)
     chosen = is-s ∙ trim-same N E 0 (n - 1) _ _ (λ j h. ws .value j (omega arith))
@@ -82,7 +92,7 @@ module _ (N : NumberForm) (E T : N .Value) where
         go true e = within-trans (within-from (omega arith) row-agrees) (single-row (viewL N c l) (viewU N c u) y n r s (eqb→eq n 1 (rw e tt)) hr selected-below)
         go false e = rw (← chosen) (within-from (omega arith) row-agrees)
 
-    pub replace-row-done : Updated N c n n (rowReplaced N E T n (viewL N c l) (viewU N c u) r y) l u y z w l₄ u₃ y₃ z₂ w₂
+    replace-row-done : Updated N c n n (rowReplaced N E T n (viewL N c l) (viewU N c u) r y) l u y z w l₄ u₃ y₃ z₂ w₂
     replace-row-done = record {
       agree = factors-agree N n c l₄ u₃ y₃ [] (omega arith) replaced-agrees;
       l-kept = kept-then N (kept-then N (l-column-kept N c r n (omega arith) cleared n (omega arith) hr) (p .l-kept)) (kept-then N (unit .kept) (q .l-kept));
@@ -91,3 +101,27 @@ module _ (N : NumberForm) (E T : N .Value) where
       z-kept = p .y-kept;
       w-kept = kept-then N (kept-more N (λ q a. omega arith) (ws .kept)) (p .v-kept);
     }
+
+    -- at dimension 1 there is no row to eliminate, as in a first push
+    replace-row-counted : {a b : ℕ} → a ≡ backwardCount N E T 0 s n (workOf N c l₁ u z w₁) → b ≡ forwardCount N E T 0 s n (workOf N c l₃ u₂ y [])
+        → a + b ≡ rowReplacedCount N E T n (viewL N c l) (viewU N c u) r y
+    unfolding rowReplacedCount rowReplacedFromCount pushedCount forwardCount forwardRowsCount
+    replace-row-counted {a} {b} is-a is-b = go (eqb n 1) refl
+      where
+        go : (t : Bool) → eqb n 1 ≡ t → a + b ≡ cond t (pushedCount N E T 0 (viewL N c l) (viewU N c u) [] [] (entry N y 0))
+            (rowReplacedFromCount N E T n (viewL N c l) (viewU N c u) r y (trim N E 0 (n - 1) (λ i. viewL N c l i r)))
+        go true e =
+            let one : n ≡ 1 = eqb→eq n 1 (rw e tt) in
+            let hs = selected-below in
+            let f = backward-counted-le N E T 0 s n _ is-a in
+            let g = forward-counted-le N E T 0 s n _ is-b in
+            omega arith
+        go false e =
+            let f = backward-counted N E T c n 0 s n n l₁ u z w₁ (omega arith) selected-below is-a row-cleared in
+            let g = forward-counted N E T c n 0 s n l₃ u₂ y [] (omega arith) selected-below (omega (arith, selected-below)) is-b row-placed in
+            rw (← chosen) (λ t. f t + g t)
+
+    -- the factors, and how many pair steps they took
+    pub replace-row-outcome : {a b : ℕ} → a ≡ backwardCount N E T 0 s n (workOf N c l₁ u z w₁) → b ≡ forwardCount N E T 0 s n (workOf N c l₃ u₂ y [])
+        → Updated N c n n (rowReplaced N E T n (viewL N c l) (viewU N c u) r y) l u y z w l₄ u₃ y₃ z₂ w₂ × (a + b ≡ rowReplacedCount N E T n (viewL N c l) (viewU N c u) r y)
+    replace-row-outcome is-a is-b = (replace-row-done, replace-row-counted is-a is-b)

@@ -1,10 +1,12 @@
 // Replacing a row of the matrix, on lent slices. The workspaces' first n entries are scratch.
+ghost use mathlib.Core.Path.{_≡_};
 ghost use Prim.Native.Nat.{_≤_, _<_};
 ghost use lib.ListN.{length};
 ghost use lib.Ieee.{binary64};
 ghost use Rattle.numbers.specs.NumberForm.{ieee};
 ghost use Rattle.numbers.specs.Tolerances.{tinyOf};
 ghost use Rattle.machine.specs.Updates.{rowReplaced};
+ghost use Rattle.machine.specs.Counts.{rowReplacedCount};
 ghost use Rattle.storage.specs.Views.{viewL, viewU};
 ghost use Rattle.buffers.specs.Performed.{Room};
 ghost use Rattle.stages.specs.Stages.{Updated};
@@ -16,7 +18,7 @@ use l_columns::read_l_column;
 use numerics::tolerance::Numerics;
 use stages::set_unit_row;
 
-// Replaces a row of the matrix by y.
+// Replaces a row of the matrix by y. It answers how many pair steps it made.
 pub fn replace_row(
     row: usize,
     n: usize,
@@ -27,16 +29,19 @@ pub fn replace_row(
     z: &mut [f64],
     w: &mut [f64],
     numerics: Numerics,
-)
+) -> usize
     requires { ⌜ Room (ieee binary64) stride n (now l) (now u) × ((n ≤ length (now y)) × ((n ≤ length (now z)) × ((n ≤ length (now w)) × (row < n)))) ⌝ }
-    ensures { λ _. ⌜ Updated (ieee binary64) stride n n (rowReplaced (ieee binary64) (numerics .epsilon) (tinyOf binary64 (numerics .epsilon) (numerics .«update_tiny»)) n
+    ensures { λ r. ⌜ Updated (ieee binary64) stride n n (rowReplaced (ieee binary64) (numerics .epsilon) (tinyOf binary64 (numerics .epsilon) (numerics .«update_tiny»)) n
         (viewL (ieee binary64) stride (now (l .entry))) (viewU (ieee binary64) stride (now (u .entry))) row (now (y .entry)))
-        (now (l .entry)) (now (u .entry)) (now (y .entry)) (now (z .entry)) (now (w .entry)) (now (l .exit)) (now (u .exit)) (now (y .exit)) (now (z .exit)) (now (w .exit)) ⌝ }
+        (now (l .entry)) (now (u .entry)) (now (y .entry)) (now (z .entry)) (now (w .entry)) (now (l .exit)) (now (u .exit)) (now (y .exit)) (now (z .exit)) (now (w .exit))
+        × (r ≡ rowReplacedCount (ieee binary64) (numerics .epsilon) (tinyOf binary64 (numerics .epsilon) (numerics .«update_tiny»)) n
+        (viewL (ieee binary64) stride (now (l .entry))) (viewU (ieee binary64) stride (now (u .entry))) row (now (y .entry))) ⌝ }
 {
     read_l_column(l, row, n, stride, w);
     clear_l_column(l, row, n, stride);
     let selected = trim(0, n - 1, w, numerics.epsilon);
-    backward(0, selected, n, n, stride, l, u, z, w, numerics);
+    let backward_steps = backward(0, selected, n, n, stride, l, u, z, w, numerics);
     set_unit_row(selected, row, n, stride, l);
-    forward(0, selected, n, n, stride, l, u, y, numerics);
+    let forward_steps = forward(0, selected, n, n, stride, l, u, y, numerics);
+    backward_steps + forward_steps
 }

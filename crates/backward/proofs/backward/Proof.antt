@@ -7,13 +7,23 @@ use lib.Ieee.{binary64}
 use Rattle.numbers.specs.NumberForm.{ieee}
 use Rattle.numbers.specs.Tolerances.{tinyOf}
 use Rattle.machine.specs.Backward.{backward}
+use Rattle.machine.specs.Counts.{backwardCount}
 use Rattle.machine.proofs.Choice.{within-from}
 use Rattle.machine.proofs.Backward.{backward-rows-same}
+use Rattle.machine.proofs.Counts.{backward-rows-count-same}
 use Rattle.ranges.proofs.RowParts.{part-fits}
 use Rattle.buffers.proofs.Buffers.{performed-then}
 use Rattle.backward.proofs.Rows.{row-copied}
 use Rattle.backward.proofs.backward.Statement.{statement}
 use Rattle.backward.proofs.backward.Tie as tie
+
+-- The places before the rows.
+record Way : Type 0 where
+  start : tie.Start
+  index : tie.After-u-index
+
+way : tie.After-copy → Way
+way c = search
 
 u-index-requires : tie.Need-u-index-requires
 u-index-requires c κs = omega arith
@@ -23,40 +33,55 @@ sub-copy c = search needs
 
 copy-requires : tie.Need-copy-requires
 copy-requires c κs =
-    let start = c .before .before .before .before .before .before .before in
+    let start : tie.Start = search in
     let a = start .args in
     let p = start .pre in
-    let d = c .before .before .u-index in
+    let d = let t : tie.After-u-index = search in t .u-index in
     (omega arith, part-fits (a .stride) (a .selected) (a .selected) (a .columns - a .selected) (d .result) (omega arith) (omega arith) (d .ensures .0) _ (omega arith) (omega arith))
 
 backward-rows-requires : tie.Need-backward-rows-requires
+unfolding way
 backward-rows-requires c κs =
-    let p = c .before .before .before .before .before .before .before .before .before .before .before .before .before .before .pre in
-    (p .0, (rw (c .before .before .before .before .before .before .copy .ensures .kept .long) (p .1 .0), p .1 .1))
+    let t : tie.After-copy = search in
+    let p = way t .start .pre in
+    (p .0, (rw (t .copy .ensures .kept .long) (p .1 .0), p .1 .1))
 
 same-length : tie.Need-same-length
-same-length c = c .before .before .before .before .before .before .before .before .backward-rows .ensures .l-kept .long
+same-length c =
+    let backward-rows = let t : tie.After-backward-rows = search in t .backward-rows in
+    backward-rows .ensures .0 .l-kept .long
 
 same-length-2 : tie.Need-same-length-2
-same-length-2 c = c .before .before .before .before .before .before .before .before .backward-rows .ensures .u-kept .long
+same-length-2 c =
+    let backward-rows = let t : tie.After-backward-rows = search in t .backward-rows in
+    backward-rows .ensures .0 .u-kept .long
 
 same-length-3 : tie.Need-same-length-3
-same-length-3 c = c .before .before .before .before .before .before .before .before .backward-rows .ensures .y-kept .long ∙ c .before .before .before .before .before .before .before .before .before .before .before .before .before .before .before .copy .ensures .kept .long
+same-length-3 c =
+    let backward-rows = let t : tie.After-backward-rows = search in t .backward-rows in
+    let copy = let t : tie.After-copy = search in t .copy in
+    backward-rows .ensures .0 .y-kept .long ∙ copy .ensures .kept .long
 
 same-length-4 : tie.Need-same-length-4
-same-length-4 c = c .before .before .before .before .before .before .before .before .backward-rows .ensures .v-kept .long
+same-length-4 c =
+    let backward-rows = let t : tie.After-backward-rows = search in t .backward-rows in
+    backward-rows .ensures .0 .v-kept .long
 
 returns : tie.Need-returns
-unfolding backward
+unfolding backward backwardCount way
 returns c =
-    let start = c .before .before .before .before .before .before .before .before .before .before .before .before .before .before .before .before .before .before .before .before .before .before .before in
-    let a = start .args in
-    let p = start .pre in
-    let d = c .before .before .before .before .before .before .before .before .before .before .before .before .before .before .before .before .before .before .u-index in
-    performed-then (ieee binary64)
-    (row-copied (ieee binary64) (a .stride) (a .n) (a .columns) (a .selected) (d .result) _ _ _ _ (omega arith) (omega arith) (omega arith) (d .ensures .0) (c .before .before .before .before .before .before .before .before .before .before .before .before .before .before .before .copy .ensures))
-    (c .before .before .before .before .before .before .before .before .backward-rows .ensures) (omega arith)
-    (λ S R h. within-from (omega arith) (backward-rows-same (ieee binary64) (a .numerics .epsilon) (tinyOf binary64 (a .numerics .epsilon) (a .numerics .«update_tiny»)) (a .n) (a .columns) (omega arith) (a .selected) (a .selected - a .first) (omega arith) (omega arith) h))
+    let backward-rows = let t : tie.After-backward-rows = search in t .backward-rows in
+    let t : tie.After-copy = search in
+    let a = way t .start .args in
+    let p = way t .start .pre in
+    let d = way t .index .u-index in
+    let copied = row-copied (ieee binary64) (a .stride) (a .n) (a .columns) (a .selected) (d .result) _ _ _ _ (omega arith) (omega arith) (omega arith) (d .ensures .0) (t .copy .ensures) in (
+      performed-then (ieee binary64)
+          copied
+          (backward-rows .ensures .0) (omega arith)
+          (λ S R h. within-from (omega arith) (backward-rows-same (ieee binary64) (a .numerics .epsilon) (tinyOf binary64 (a .numerics .epsilon) (a .numerics .«update_tiny»)) (a .n) (a .columns) (omega arith) (a .selected) (a .selected - a .first) (omega arith) (omega arith) h)),
+      backward-rows .ensures .1 ∙ backward-rows-count-same (ieee binary64) (a .numerics .epsilon) (tinyOf binary64 (a .numerics .epsilon) (a .numerics .«update_tiny»)) (a .n) (a .columns) (omega arith) (a .selected) (a .selected - a .first) (omega arith) (omega arith) (copied .agree),
+    )
 
 pub backward-spec : {M : Type 1} → statement M
 backward-spec =

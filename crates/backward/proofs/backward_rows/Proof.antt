@@ -3,69 +3,90 @@ use mathlib.Core.Path.{_≡_}
 use Prim.Native.Nat.{_-_, _≤_}
 use native.Mathlib.Omega.{arith}
 use lib.Ieee.{binary64}
+use denote.Ref.{now}
 use Rattle.numbers.specs.NumberForm.{ieee}
 use Rattle.numbers.specs.Tolerances.{tinyOf}
 use Rattle.machine.specs.Backward.{backwardRow, backwardRows}
+use Rattle.machine.specs.Counts.{backwardRowsCount}
 use Rattle.machine.proofs.Backward.{backward-row-same}
-use Rattle.buffers.specs.Performed.{Performed}
+use Rattle.machine.proofs.CountLimits.{backward-row-count-le, backward-rows-count-le}
+use Rattle.buffers.specs.Performed.{workOf, Performed}
 use Rattle.buffers.proofs.Buffers.{performed-none, performed-then, performed-as}
-use Rattle.backward.proofs.Rows.{backward-rows-none, backward-rows-more}
+use Rattle.backward.proofs.Rows.{backward-rows-none, backward-rows-more, backward-count-none, backward-count-more}
 use Rattle.backward.proofs.backward_rows.Statement.{statement}
 use Rattle.backward.proofs.backward_rows.Tie as tie
 
 abbrev Inv-loop : tie.InvT-loop
-Inv-loop first selected n columns stride l₀ u₀ y₀ v₀ numerics row₀ l u y v row = (first ≤ row) × ((row ≤ selected) × Performed (ieee binary64) stride n row columns n (backwardRows (ieee binary64) (numerics .epsilon) (tinyOf binary64 (numerics .epsilon) (numerics .«update_tiny»)) selected columns (selected - row)) l₀ u₀ y₀ v₀ l u y v)
+Inv-loop first selected n columns stride l₀ u₀ y₀ v₀ numerics steps₀ row₀ l u y v steps row = (first ≤ row) × ((row ≤ selected) × (Performed (ieee binary64) stride n row columns n (backwardRows (ieee binary64) (numerics .epsilon) (tinyOf binary64 (numerics .epsilon) (numerics .«update_tiny»)) selected columns (selected - row)) l₀ u₀ y₀ v₀ l u y v
+    × (steps ≡ backwardRowsCount (ieee binary64) (numerics .epsilon) (tinyOf binary64 (numerics .epsilon) (numerics .«update_tiny»)) selected columns (selected - row) (workOf (ieee binary64) stride l₀ u₀ y₀ v₀))))
 
 abbrev μ-loop : tie.MeasureT-loop
-μ-loop first selected n columns stride l₀ u₀ y₀ v₀ numerics row₀ l u y v row = row
+μ-loop first selected n columns stride l₀ u₀ y₀ v₀ numerics steps₀ row₀ l u y v steps row = row
 
 loop-holds : tie.Need-loop-holds Inv-loop μ-loop
-loop-holds c = (omega arith, (omega arith, performed-as (ieee binary64) (λ S. S) (backward-rows-none (ieee binary64) _ _ _ _ _) (performed-none (ieee binary64))))
+loop-holds c = (omega arith, (omega arith, (performed-as (ieee binary64) (λ S. S) (backward-rows-none (ieee binary64) _ _ _ _ _) (performed-none (ieee binary64)), backward-count-none (ieee binary64) _ _ _ _ _)))
 
 sub-row : tie.Need-sub-row Inv-loop μ-loop
 sub-row c = omega arith
 
 backward-row-requires : tie.Need-backward-row-requires Inv-loop μ-loop
 backward-row-requires c κs =
-    let p = c .before .before .before .before .before .before .before .before .before .before .pre in
-    let k = c .before .before .before .before .before .loop .inv .1 .1 in (
+    let p = let s : tie.Start Inv-loop μ-loop = search in s .pre in
+    let k = let t : tie.At-loop Inv-loop μ-loop = search in t .loop .inv .1 .1 .0 in (
       record { stride = p .0 .stride; dimension = p .0 .dimension; l-long = rw (k .l-kept .long) (p .0 .l-long); u-long = rw (k .u-kept .long) (p .0 .u-long) },
       (rw (k .y-kept .long) (p .1 .0), (rw (k .v-kept .long) (p .1 .1 .0), omega arith)),
     )
+
+add-steps : tie.Need-add-steps Inv-loop μ-loop
+add-steps c =
+    let start : tie.Start Inv-loop μ-loop = search in
+    let loop = let t : tie.At-loop Inv-loop μ-loop = search in t .loop in
+    let row = let t : tie.After-backward-row Inv-loop μ-loop = search in t .backward-row in
+    let a = start .args in
+    let p = start .pre in
+    omega (arith, loop .inv .1 .1 .1, backward-rows-count-le (ieee binary64) (a .numerics .epsilon) (tinyOf binary64 (a .numerics .epsilon) (a .numerics .«update_tiny»)) (a .selected) (a .columns) (a .selected - loop .row) (workOf (ieee binary64) (a .stride) (now (a .l)) (now (a .u)) (now (a .y)) (now (a .v))), row .ensures .1, backward-row-count-le (ieee binary64) (a .numerics .epsilon) (a .selected) (loop .row - 1) (workOf (ieee binary64) (a .stride) (loop .l) (loop .u) (loop .y) (loop .v)))
 
 loop-less : tie.Need-loop-less Inv-loop μ-loop
 loop-less c = omega arith
 
 loop-again : tie.Need-loop-again Inv-loop μ-loop
 loop-again c =
-    let a = c .before .before .before .before .before .before .before .before .before .before .before .before .before .before .before .before .before .before .before .args in
-    let p = c .before .before .before .before .before .before .before .before .before .before .before .before .before .before .before .before .before .before .before .pre in
-    let h = c .before .before .before .before .before .before .before .before .before .before .before .before .before .before .loop .inv in (
+    let backward-row = let t : tie.After-backward-row Inv-loop μ-loop = search in t .backward-row in
+    let loop = let t : tie.At-loop Inv-loop μ-loop = search in t .loop in
+    let a = let s : tie.Start Inv-loop μ-loop = search in s .args in
+    let p = let s : tie.Start Inv-loop μ-loop = search in s .pre in
+    let h = let t : tie.At-loop Inv-loop μ-loop = search in t .loop .inv in (
       omega arith,
       (
         omega arith,
-        performed-as (ieee binary64)
-            (λ S. backwardRow (ieee binary64) (a .numerics .epsilon) (tinyOf binary64 (a .numerics .epsilon) (a .numerics .«update_tiny»)) (a .selected) (a .columns) (c .before .before .before .before .before .before .before .before .before .before .before .before .before .before .loop .row - 1) (backwardRows (ieee binary64) (a .numerics .epsilon) (tinyOf binary64 (a .numerics .epsilon) (a .numerics .«update_tiny»)) (a .selected) (a .columns) (a .selected - c .before .before .before .before .before .before .before .before .before .before .before .before .before .before .loop .row) S))
-            (backward-rows-more (ieee binary64) (a .numerics .epsilon) (tinyOf binary64 (a .numerics .epsilon) (a .numerics .«update_tiny»)) (a .selected) (a .columns) (c .before .before .before .before .before .before .before .before .before .before .before .before .before .before .loop .row) _ (omega arith) (h .1 .0))
-            (performed-then (ieee binary64) (h .1 .1) (c .before .before .before .before .before .before .before .before .backward-row .ensures) (omega arith)
-            (λ S R. backward-row-same (ieee binary64) (a .numerics .epsilon) (tinyOf binary64 (a .numerics .epsilon) (a .numerics .«update_tiny»)) (a .n) (a .columns) (omega arith) (a .selected) (c .before .before .before .before .before .before .before .before .before .before .before .before .before .before .loop .row - 1) (c .before .before .before .before .before .before .before .before .before .before .before .before .before .before .loop .row) (omega arith) (omega arith) (omega arith))),
+        (
+          performed-as (ieee binary64)
+              (λ S. backwardRow (ieee binary64) (a .numerics .epsilon) (tinyOf binary64 (a .numerics .epsilon) (a .numerics .«update_tiny»)) (a .selected) (a .columns) (loop .row - 1) (backwardRows (ieee binary64) (a .numerics .epsilon) (tinyOf binary64 (a .numerics .epsilon) (a .numerics .«update_tiny»)) (a .selected) (a .columns) (a .selected - loop .row) S))
+              (backward-rows-more (ieee binary64) (a .numerics .epsilon) (tinyOf binary64 (a .numerics .epsilon) (a .numerics .«update_tiny»)) (a .selected) (a .columns) (loop .row) _ (omega arith) (h .1 .0))
+              (performed-then (ieee binary64) (h .1 .1 .0) (backward-row .ensures .0) (omega arith)
+              (λ S R. backward-row-same (ieee binary64) (a .numerics .epsilon) (tinyOf binary64 (a .numerics .epsilon) (a .numerics .«update_tiny»)) (a .n) (a .columns) (omega arith) (a .selected) (loop .row - 1) (loop .row) (omega arith) (omega arith) (omega arith))),
+          backward-count-more (ieee binary64) (a .numerics .epsilon) (tinyOf binary64 (a .numerics .epsilon) (a .numerics .«update_tiny»)) (a .selected) (a .columns) (a .n) (loop .row) _ (omega arith) (omega arith) (h .1 .0) (omega arith) (h .1 .1 .1) (h .1 .1 .0 .agree) (backward-row .ensures .1),
+        ),
       ),
     )
 
 same-length : tie.Need-same-length Inv-loop μ-loop
-same-length c = c .before .loop .inv .1 .1 .l-kept .long
+same-length c = c .before .loop .inv .1 .1 .0 .l-kept .long
 
 same-length-2 : tie.Need-same-length-2 Inv-loop μ-loop
-same-length-2 c = c .before .loop .inv .1 .1 .u-kept .long
+same-length-2 c = c .before .loop .inv .1 .1 .0 .u-kept .long
 
 same-length-3 : tie.Need-same-length-3 Inv-loop μ-loop
-same-length-3 c = c .before .loop .inv .1 .1 .y-kept .long
+same-length-3 c = c .before .loop .inv .1 .1 .0 .y-kept .long
 
 same-length-4 : tie.Need-same-length-4 Inv-loop μ-loop
-same-length-4 c = c .before .loop .inv .1 .1 .v-kept .long
+same-length-4 c = c .before .loop .inv .1 .1 .0 .v-kept .long
 
 returns : tie.Need-returns Inv-loop μ-loop
-returns c = let e : c .before .loop .row ≡ c .before .before .before .before .before .before .args .first = omega arith in rw e at (c .before .loop .inv .1 .1)
+returns c =
+    let loop = let t : tie.At-loop Inv-loop μ-loop = search in t .loop in
+    let start : tie.Start Inv-loop μ-loop = search in
+    let e : loop .row ≡ start .args .first = omega arith in rw e at (loop .inv .1 .1)
 
 pub backward-rows-spec : {M : Type 1} → statement M
 backward-rows-spec =
@@ -76,6 +97,7 @@ backward-rows-spec =
     loop-holds
     sub-row
     backward-row-requires
+    add-steps
     loop-less
     loop-again
     same-length

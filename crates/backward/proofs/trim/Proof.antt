@@ -37,13 +37,17 @@ loop-less c = omega arith
 
 loop-again : tie.Need-loop-again Inv-loop μ-loop
 loop-again c =
-    let loop = c .before .before .before .before .loop in
-    let h : c .before .before .before .before .before .before .args .first < loop .selected = omega arith in (omega arith, (omega arith, trim-more (ieee binary64) _ _ _ _ h (c .before .abs .ensures) (c .if1 .taken) ∙ loop .inv .1 .1))
+    let abs = let t : tie.After-abs Inv-loop μ-loop = search in t .abs in
+    let start : tie.Start Inv-loop μ-loop = search in
+    let loop = let t : tie.At-loop Inv-loop μ-loop = search in t .loop in
+    let h : start .args .first < loop .selected = omega arith in (omega arith, (omega arith, trim-more (ieee binary64) _ _ _ _ h (abs .ensures) (c .if1 .taken) ∙ loop .inv .1 .1))
 
 returns : tie.Need-returns Inv-loop μ-loop
 returns c =
-    let loop = c .before .before .before .before .loop in
-    let h : c .before .before .before .before .before .before .args .first < loop .selected = omega arith in (trim-ends (ieee binary64) _ _ _ _ h (c .before .abs .ensures) (c .if1 .left) ∙ loop .inv .1 .1, (omega arith, omega arith))
+    let abs = let t : tie.After-abs Inv-loop μ-loop = search in t .abs in
+    let start : tie.Start Inv-loop μ-loop = search in
+    let loop = let t : tie.At-loop Inv-loop μ-loop = search in t .loop in
+    let h : start .args .first < loop .selected = omega arith in (trim-ends (ieee binary64) _ _ _ _ h (abs .ensures) (c .if1 .left) ∙ loop .inv .1 .1, (omega arith, omega arith))
 
 returns-2 : tie.Need-returns-2 Inv-loop μ-loop
 returns-2 c = (trim-at-start (ieee binary64) _ _ _ _ (omega arith) ∙ c .before .loop .inv .1 .1, (omega arith, omega arith))

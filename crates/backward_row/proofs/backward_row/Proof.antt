@@ -13,9 +13,28 @@ use Rattle.machine.proofs.Backward.{backward-transform-same}
 use Rattle.storage.proofs.Places.{row-before, row-fits}
 use Rattle.ranges.proofs.RowParts.{part-fits, ranges-apart}
 use Rattle.buffers.proofs.Buffers.{performed-then, performed-as, performed-from}
-use Rattle.backward_row.proofs.RowEliminated.{dense-cleared, backward-transformed, backward-skips, backward-acts}
+use Rattle.backward_row.proofs.RowEliminated.{dense-cleared, backward-transformed, backward-skips, backward-acts, backward-skips-counted, backward-acts-counted}
 use Rattle.backward_row.proofs.backward_row.Statement.{statement}
 use Rattle.backward_row.proofs.backward_row.Tie as tie
+
+-- The places up to the guard's test.
+record Tested : Type 0 where
+  start : tie.Start
+  value : tie.After-abs
+
+tested : tie.After-abs2 → Tested
+tested c = search
+
+-- The places from the guard to the last transform.
+record Acted : Type 0 where
+  pivot : tie.After-abs2
+  guard : tie.Else1
+  pair : tie.After-elementary
+  index : tie.After-u-index
+  slices : tie.After-transform-slices
+
+acted : tie.After-transform-rows → Acted
+acted c = search
 
 mul-y : tie.Need-mul-y
 mul-y c = search needs
@@ -45,13 +64,16 @@ same-length : tie.Need-same-length
 same-length c = simp length-set
 
 returns : tie.Need-returns
+unfolding tested
 returns c =
-    let start = c .before .before .before .before .before .before .before .before .before .before in
-    let a = start .args in
-    let p = start .pre in
-    performed-as (ieee binary64) (clearDense (ieee binary64) (a .row))
-    (backward-skips (ieee binary64) (a .numerics .epsilon) (tinyOf binary64 (a .numerics .epsilon) (a .numerics .«update_tiny»)) (a .stride) (a .row) (a .selected) (a .columns) (now (a .l)) (now (a .u)) (now (a .y)) (now (a .v)) (c .before .before .abs2 .ensures) (c .before .before .before .abs .ensures) (c .if1 .taken))
-    (performed-from (ieee binary64) (omega arith) (dense-cleared (ieee binary64) (a .stride) (a .n) (a .columns) (a .row) (a .n) _ _ _ _ (omega arith) (omega arith) (omega arith)))
+    let m : tie.After-abs2 = search in
+    let a = tested m .start .args in
+    let p = tested m .start .pre in (
+      performed-as (ieee binary64) (clearDense (ieee binary64) (a .row))
+          (backward-skips (ieee binary64) (a .numerics .epsilon) (tinyOf binary64 (a .numerics .epsilon) (a .numerics .«update_tiny»)) (a .stride) (a .row) (a .selected) (a .columns) (now (a .l)) (now (a .u)) (now (a .y)) (now (a .v)) (m .abs2 .ensures) (tested m .value .abs .ensures) (c .if1 .taken))
+          (performed-from (ieee binary64) (omega arith) (dense-cleared (ieee binary64) (a .stride) (a .n) (a .columns) (a .row) (a .n) _ _ _ _ (omega arith) (omega arith) (omega arith))),
+      backward-skips-counted (ieee binary64) (a .numerics .epsilon) (tinyOf binary64 (a .numerics .epsilon) (a .numerics .«update_tiny»)) (a .stride) (a .row) (a .selected) (a .columns) (now (a .l)) (now (a .u)) (now (a .y)) (now (a .v)) (m .abs2 .ensures) (tested m .value .abs .ensures) (c .if1 .taken),
+    )
 
 elementary-requires : tie.Need-elementary-requires
 elementary-requires c κs = search needs
@@ -60,77 +82,108 @@ mul-v : tie.Need-mul-v
 mul-v c = search needs
 
 slice-write-v : tie.Need-slice-write-v
-slice-write-v c = let p = c .before .before .before .before .before .before .before .before .before .before .before .before .before .pre in omega arith
+unfolding tested
+slice-write-v c =
+    let m : tie.After-abs2 = search in
+    let p = tested m .start .pre in omega arith
 
 mul-v-2 : tie.Need-mul-v-2
 mul-v-2 c = search needs
 
 slice-write-v-2 : tie.Need-slice-write-v-2
-slice-write-v-2 c = let p = c .before .before .before .before .before .before .before .before .before .before .before .before .before .pre in simp length-set (omega arith)
+unfolding tested
+slice-write-v-2 c =
+    let m : tie.After-abs2 = search in
+    let p = tested m .start .pre in simp length-set (omega arith)
 
 u-index-requires : tie.Need-u-index-requires
-u-index-requires c κs = let p = c .before .before .before .before .before .before .before .before .before .before .before .before .before .pre in omega arith
+unfolding tested
+u-index-requires c κs =
+    let m : tie.After-abs2 = search in
+    let p = tested m .start .pre in omega arith
 
 sub-transform-slices : tie.Need-sub-transform-slices
-sub-transform-slices c = let p = c .before .before .before .before .before .before .before .before .before .before .before .before .before .before .before .before .pre in omega arith
+unfolding tested
+sub-transform-slices c =
+    let m : tie.After-abs2 = search in
+    let p = tested m .start .pre in omega arith
 
 transform-slices-requires : tie.Need-transform-slices-requires
+unfolding tested
 transform-slices-requires c κs =
-    let start = c .before .before .before .before .before .before .before .before .before .before .before .before .before .before .before .before in
-    let a = start .args in
-    let p = start .pre in
-    let d = c .before .before .u-index in (
+    let m : tie.After-abs2 = search in
+    let a = tested m .start .args in
+    let p = tested m .start .pre in
+    let d = let t : tie.After-u-index = search in t .u-index in (
       simp length-set (omega arith),
       part-fits (a .stride) (a .row) (a .row) (a .columns - a .row) (d .result) (omega arith) (omega arith) (d .ensures .0) (length (now (a .u))) (omega arith) (omega arith),
     )
 
 mul-transform-rows : tie.Need-mul-transform-rows
+unfolding tested
 mul-transform-rows c =
-    let start = c .before .before .before .before .before .before .before .before .before .before .before .before .before .before .before .before .before .before .before .before .before .before in
-    let p = start .pre in omega (arith, row-fits (start .args .stride) (start .args .selected) (omega arith) (omega arith), row-fits (start .args .stride) (start .args .row) (omega arith) (omega arith))
+    let m : tie.After-abs2 = search in
+    let a = tested m .start .args in
+    let p = tested m .start .pre in
+    omega (arith, row-fits (a .stride) (a .selected) (omega arith) (omega arith), row-fits (a .stride) (a .row) (omega arith) (omega arith))
 
 mul-transform-rows-2 : tie.Need-mul-transform-rows-2
+unfolding tested
 mul-transform-rows-2 c =
-    let start = c .before .before .before .before .before .before .before .before .before .before .before .before .before .before .before .before .before .before .before .before .before .before in
-    let p = start .pre in omega (arith, row-fits (start .args .stride) (start .args .selected) (omega arith) (omega arith), row-fits (start .args .stride) (start .args .row) (omega arith) (omega arith))
+    let m : tie.After-abs2 = search in
+    let a = tested m .start .args in
+    let p = tested m .start .pre in
+    omega (arith, row-fits (a .stride) (a .selected) (omega arith) (omega arith), row-fits (a .stride) (a .row) (omega arith) (omega arith))
 
 transform-rows-requires : tie.Need-transform-rows-requires
+unfolding tested
 transform-rows-requires c κs =
-    let start = c .before .before .before .before .before .before .before .before .before .before .before .before .before .before .before .before .before .before .before .before .before .before in
-    let a = start .args in
-    let h = start .pre in
+    let m : tie.After-abs2 = search in
+    let a = tested m .start .args in
+    let h = tested m .start .pre in
     let p = row-before (a .stride) (a .row) (a .selected) (omega arith) in
     let q = row-before (a .stride) (a .selected) (a .stride) (omega arith) in
     (ranges-apart _ _ _ (λ e. omega arith), (omega arith, omega arith))
 
 same-length-2 : tie.Need-same-length-2
-same-length-2 c = c .before .before .transform-rows .ensures .kept .long
+same-length-2 c =
+    let r : tie.After-transform-rows = search in
+    r .transform-rows .ensures .kept .long
 
 same-length-3 : tie.Need-same-length-3
-same-length-3 c = c .before .before .before .before .before .before .before .before .transform-slices .ensures .1 .kept .long
+unfolding acted
+same-length-3 c =
+    let r : tie.After-transform-rows = search in
+    acted r .slices .transform-slices .ensures .1 .kept .long
 
 same-length-4 : tie.Need-same-length-4
-same-length-4 c = c .before .before .before .before .before .before .before .before .transform-slices .ensures .0 .kept .long ∙ simp length-set
+unfolding acted
+same-length-4 c =
+    let r : tie.After-transform-rows = search in
+    acted r .slices .transform-slices .ensures .0 .kept .long ∙ simp length-set
 
 same-length-5 : tie.Need-same-length-5
 same-length-5 c = simp length-set
 
 returns-2 : tie.Need-returns-2
+unfolding tested acted
 returns-2 c =
-    let start = c .before .before .before .before .before .before .before .before .before .before .before .before .before .before .before .before .before .before .before .before .before .before .before .before .before in
-    let transform-slices = c .before .before .before .before .before .before .before .before .transform-slices in
-    let a = start .args in
-    let p = start .pre in
-    let d = c .before .before .before .before .before .before .before .before .before .before .before .u-index in
-    let s = c .before .before .before .before .before .before .before .before .before .before .before .before .elementary in
-    performed-as (ieee binary64) (λ S. backwardTransform (ieee binary64) (a .selected) (a .columns) (a .row) _ (clearDense (ieee binary64) (a .row) S))
-    (backward-acts (ieee binary64) (a .numerics .epsilon) (tinyOf binary64 (a .numerics .epsilon) (a .numerics .«update_tiny»)) (a .stride) (a .row) (a .selected) (a .columns) (now (a .l)) (now (a .u)) (now (a .y)) (now (a .v)) (c .before .before .before .before .before .before .before .before .before .before .before .before .before .before .before .before .before .abs2 .ensures) (c .before .before .before .before .before .before .before .before .before .before .before .before .before .before .before .before .before .before .abs .ensures) (c .before .before .before .before .before .before .before .before .before .before .before .before .before .before .before .if1 .left) (s .ensures .step))
-    (performed-then (ieee binary64) (performed-from (ieee binary64) (omega arith) (dense-cleared (ieee binary64) (a .stride) (a .n) (a .columns) (a .row) (a .n) _ _ _ _ (omega arith) (omega arith) (omega arith)))
-    (backward-transformed (ieee binary64) (a .stride) (a .n) (a .columns) (a .row) (a .selected) (d .result) _ _ _ _ _ _ _ _
-    (omega arith) (omega arith) (omega arith) (omega arith) (omega arith) (d .ensures .0) (omega arith) (s .ensures .cleared)
-    (transform-slices .ensures .0) (transform-slices .ensures .1) (c .before .before .transform-rows .ensures))
-    (omega arith)
-    (λ S R. backward-transform-same (ieee binary64) (a .numerics .epsilon) (tinyOf binary64 (a .numerics .epsilon) (a .numerics .«update_tiny»)) (a .n) (a .columns) (omega arith) (a .selected) (a .row) refl (omega arith) (omega arith)))
+    let r : tie.After-transform-rows = search in
+    let transform-slices = acted r .slices .transform-slices in
+    let a = tested (acted r .pivot) .start .args in
+    let p = tested (acted r .pivot) .start .pre in
+    let d = acted r .index .u-index in
+    let s = acted r .pair .elementary in (
+      performed-as (ieee binary64) (λ S. backwardTransform (ieee binary64) (a .selected) (a .columns) (a .row) _ (clearDense (ieee binary64) (a .row) S))
+          (backward-acts (ieee binary64) (a .numerics .epsilon) (tinyOf binary64 (a .numerics .epsilon) (a .numerics .«update_tiny»)) (a .stride) (a .row) (a .selected) (a .columns) (now (a .l)) (now (a .u)) (now (a .y)) (now (a .v)) (acted r .pivot .abs2 .ensures) (tested (acted r .pivot) .value .abs .ensures) (acted r .guard .if1 .left) (s .ensures .step))
+          (performed-then (ieee binary64) (performed-from (ieee binary64) (omega arith) (dense-cleared (ieee binary64) (a .stride) (a .n) (a .columns) (a .row) (a .n) _ _ _ _ (omega arith) (omega arith) (omega arith)))
+          (backward-transformed (ieee binary64) (a .stride) (a .n) (a .columns) (a .row) (a .selected) (d .result) _ _ _ _ _ _ _ _
+          (omega arith) (omega arith) (omega arith) (omega arith) (omega arith) (d .ensures .0) (omega arith) (s .ensures .cleared)
+          (transform-slices .ensures .0) (transform-slices .ensures .1) (r .transform-rows .ensures))
+          (omega arith)
+          (λ S R. backward-transform-same (ieee binary64) (a .numerics .epsilon) (tinyOf binary64 (a .numerics .epsilon) (a .numerics .«update_tiny»)) (a .n) (a .columns) (omega arith) (a .selected) (a .row) refl (omega arith) (omega arith))),
+      backward-acts-counted (ieee binary64) (a .numerics .epsilon) (tinyOf binary64 (a .numerics .epsilon) (a .numerics .«update_tiny»)) (a .stride) (a .row) (a .selected) (a .columns) (now (a .l)) (now (a .u)) (now (a .y)) (now (a .v)) (acted r .pivot .abs2 .ensures) (tested (acted r .pivot) .value .abs .ensures) (acted r .guard .if1 .left),
+    )
 
 pub backward-row-spec : {M : Type 1} → statement M
 backward-row-spec =

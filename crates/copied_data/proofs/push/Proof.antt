@@ -12,6 +12,14 @@ use Rattle.copied_data.proofs.CopiedData.{push-of-copy}
 use Rattle.copied_data.proofs.push.Statement.{statement}
 use Rattle.copied_data.proofs.push.Tie as tie
 
+-- The places before the numerics.
+record Way : Type 0 where
+  start : tie.Start
+  copied : tie.After-copy
+
+way : tie.After-managed → Way
+way c = search
+
 copy-requires : tie.Need-copy-requires
 copy-requires c κs = search needs
 
@@ -28,7 +36,12 @@ managed-requires : tie.Need-managed-requires
 managed-requires c κs = search needs
 
 push-requires : tie.Need-push-requires
-push-requires c κs = let p = c .before .before .before .before .before .before .before .before .before .before .before .before .before .before .before .pre in let k = c .before .before .before .before .before .before .before .copy .ensures .kept .long in (p .0, (rw length-set (omega arith), (omega arith, (omega arith, omega arith))))
+unfolding way
+push-requires c κs =
+    let m : tie.After-managed = search in
+    let p = way m .start .pre in
+    let k = way m .copied .copy .ensures .kept .long in
+    (p .0, (rw length-set (omega arith), (omega arith, (omega arith, omega arith))))
 
 same-length : tie.Need-same-length
 same-length c = search needs
@@ -37,19 +50,26 @@ same-length-2 : tie.Need-same-length-2
 same-length-2 c = search needs
 
 same-length-3 : tie.Need-same-length-3
-same-length-3 c = (rw length-set at (c .before .before .before .before .before .before .before .before .push .ensures .y-kept .long)) ∙ c .before .before .before .before .before .before .before .before .before .before .before .before .before .before .before .before .copy .ensures .kept .long
+unfolding way
+same-length-3 c =
+    let push = let t : tie.After-push = search in t .push in
+    let m : tie.After-managed = search in
+    (rw length-set at (push .ensures .0 .y-kept .long)) ∙ way m .copied .copy .ensures .kept .long
 
 same-length-4 : tie.Need-same-length-4
 same-length-4 c = search needs
 
 returns : tie.Need-returns
+unfolding way
 returns c =
-    let a = c .before .before .before .before .before .before .before .before .before .before .before .before .before .before .before .before .before .before .before .before .before .before .before .before .args in
-    let p = c .before .before .before .before .before .before .before .before .before .before .before .before .before .before .before .before .before .before .before .before .before .before .before .before .pre .1 .0 in
-    let k = c .before .before .before .before .before .before .before .before .before .before .before .before .before .before .before .before .copy .ensures .kept .long in
-    let b = c .before .before .before .before .before .before .before .before .before .managed .ensures in
+    let push = let t : tie.After-push = search in t .push in
+    let m : tie.After-managed = search in
+    let a = way m .start .args in
+    let p = way m .start .pre .1 .0 in
+    let k = way m .copied .copy .ensures .kept .long in
+    let b = m .managed .ensures in
     push-of-copy (ieee binary64) (managedEpsilon binary64) (managedTiny binary64) (a .n) (a .capacity) (viewL (ieee binary64) (a .capacity) (now (a .l))) (viewU (ieee binary64) (a .capacity) (now (a .u)))
-    (now (a .row)) (now (a .column)) (a .diagonal) (c .before .before .before .before .before .before .before .before .before .before .before .before .before .before .before .before .copy .ensures) (omega (arith, p, k)) (rw (b .0, b .1) at (c .before .before .before .before .before .before .before .before .push .ensures))
+    (now (a .row)) (now (a .column)) (a .diagonal) (way m .copied .copy .ensures) (omega (arith, p, k)) (rw (b .0, b .1) at (push .ensures))
 
 pub push-spec : {M : Type 1} → statement M
 push-spec =

@@ -9,6 +9,14 @@ use Rattle.copied_data.proofs.CopiedData.{row-of-copy}
 use Rattle.copied_data.proofs.replace_row.Statement.{statement}
 use Rattle.copied_data.proofs.replace_row.Tie as tie
 
+-- The places before the numerics.
+record Way : Type 0 where
+  start : tie.Start
+  copied : tie.After-copy
+
+way : tie.After-managed → Way
+way c = search
+
 copy-requires : tie.Need-copy-requires
 copy-requires c κs = search needs
 
@@ -34,12 +42,15 @@ same-length-5 : tie.Need-same-length-5
 same-length-5 c = search needs
 
 returns : tie.Need-returns
+unfolding way
 returns c =
-    let a = c .before .before .before .before .before .before .before .before .before .before .before .before .before .before .before .before .before .before .before .before .before .before .before .before .before .before .before .args in
-    let p = c .before .before .before .before .before .before .before .before .before .before .before .before .before .before .before .before .before .before .before .before .before .before .before .before .before .before .before .pre in
-    let b = c .before .before .before .before .before .before .before .before .before .before .before .managed .ensures in
+    let replace-row = let t : tie.After-replace-row = search in t .replace-row in
+    let m : tie.After-managed = search in
+    let a = way m .start .args in
+    let p = way m .start .pre in
+    let b = m .managed .ensures in
     row-of-copy (ieee binary64) (managedEpsilon binary64) (managedTiny binary64) (a .n) (a .capacity) (viewL (ieee binary64) (a .capacity) (now (a .l))) (viewU (ieee binary64) (a .capacity) (now (a .u)))
-    (a .row) (now (a .values)) (c .before .before .before .before .before .before .before .before .before .before .before .before .before .before .before .before .before .before .before .copy .ensures) (p .1 .1 .1 .1 .1) (rw (b .0, b .1) at (c .before .before .before .before .before .before .before .before .before .before .replace-row .ensures))
+    (a .row) (now (a .values)) (way m .copied .copy .ensures) (p .1 .1 .1 .1 .1) (rw (b .0, b .1) at (replace-row .ensures))
 
 pub replace-row-spec : {M : Type 1} → statement M
 replace-row-spec =

@@ -10,6 +10,23 @@ use Rattle.modes.proofs.Calls.{push-performed, column-performed, row-pe
 use Rattle.modes.proofs.perform.Statement.{statement}
 use Rattle.modes.proofs.perform.Tie as tie
 
+-- The places before the mode is looked at.
+record Way : Type 0 where
+  start : tie.Start
+  based : tie.After-zero-based
+
+push-way : tie.Then1 → Way
+push-way c = search
+
+column-way : tie.Then2 → Way
+column-way c = search
+
+row-way : tie.Then3 → Way
+row-way c = search
+
+remove-way : tie.Else3 → Way
+remove-way c = search
+
 zero-based-requires : tie.Need-zero-based-requires
 zero-based-requires c κs = search needs
 
@@ -17,17 +34,19 @@ push-requires : tie.Need-push-requires
 push-requires c κs = search needs
 
 replace-column-requires : tie.Need-replace-column-requires
-replace-column-requires c κs = let p = c .before .before .before .before .before .before .before .before .before .before .before .before .before .pre in (p .0, (p .1 .0, (p .1 .1 .0, (p .1 .1 .1 .0, p .1 .1 .1 .1 .1 .1 .1 .1 .0 (c .before .before .before .before .before .if2 .taken)))))
+replace-column-requires c κs =
+    let if2 = let t : tie.Then2 = search in t .if2 in
+    let p = let s : tie.Start = search in s .pre in (p .0, (p .1 .0, (p .1 .1 .0, (p .1 .1 .1 .0, p .1 .1 .1 .1 .1 .1 .1 .1 .0 (if2 .taken)))))
 
 replace-row-requires : tie.Need-replace-row-requires
-replace-row-requires c κs = let p = c .before .before .before .before .before .before .before .before .before .before .before .before .before .before .pre in let h = c .before .before .before .before .before .if3 .taken in (p .0, (p .1 .0, (p .1 .1 .0, (p .1 .1 .1 .0, p .1 .1 .1 .1 .1 .1 .1 .0 (omega arith)))))
+replace-row-requires c κs = let p = let s : tie.Start = search in s .pre in let h = let t : tie.Then3 = search in t .if3 .taken in (p .0, (p .1 .0, (p .1 .1 .0, (p .1 .1 .1 .0, p .1 .1 .1 .1 .1 .1 .1 .0 (omega arith)))))
 
 remove-requires : tie.Need-remove-requires
 remove-requires c κs =
-    let p = c .before .before .before .before .before .before .before .before .before .before .before .before .before .before .pre in
-    let g = c .before .before .before .before .before .if3 .left in
-    let h = c .before .before .before .before .before .before .if2 .left in
-    let k = c .before .before .before .before .before .before .before .if1 .left in
+    let p = let s : tie.Start = search in s .pre in
+    let g = let t : tie.Else3 = search in t .if3 .left in
+    let h = let t : tie.Else2 = search in t .if2 .left in
+    let k = let t : tie.Else1 = search in t .if1 .left in
     let row = p .1 .1 .1 .1 .1 .1 .1 .0 (omega arith) in
     let column = p .1 .1 .1 .1 .1 .1 .1 .1 .1 (omega arith) in
     (p .0, (p .1 .0, (p .1 .1 .0, (p .1 .1 .1 .0, (omega arith, omega arith)))))
@@ -48,14 +67,16 @@ same-length-5 : tie.Need-same-length-5
 same-length-5 c = search needs
 
 returns : tie.Need-returns
+unfolding push-way
 returns c =
-    let start = c .before .before .before .before .before .before .before .before .before .before .before .before .before .before .before .before .before .before .before .before .before in
-    let a = start .args in
-    let p = start .pre in
-    let b = c .before .before .before .before .before .before .before .before .before .before .before .before .before .before .before .zero-based .ensures in
+    let t : tie.Then1 = search in
+    let b = push-way t .based .zero-based .ensures in
+    let a = push-way t .start .args in
+    let p = push-way t .start .pre in
+    let push = let e : tie.After-push = search in e .push in
     push-performed (ieee binary64) zeroBasedEpsilon zeroBasedTiny (a .mode) (a .stride) (a .n) (a .row) (a .column) (now (a .l)) (now (a .u)) (now (a .y)) (now (a .z)) (now (a .w))
-    (c .before .before .before .before .before .before .before .before .before .before .before .before .before .before .if1 .taken) (omega arith)
-    (rw (b .0, b .1) at (c .before .before .before .before .before .before .before .before .push .ensures))
+    (t .if1 .taken) (omega arith)
+    (rw (b .0, b .1) at (push .ensures .0))
 
 same-length-6 : tie.Need-same-length-6
 same-length-6 c = search needs
@@ -73,15 +94,16 @@ same-length-10 : tie.Need-same-length-10
 same-length-10 c = search needs
 
 returns-2 : tie.Need-returns-2
+unfolding column-way
 returns-2 c =
-    let start = c .before .before .before .before .before .before .before .before .before .before .before .before .before .before .before .before .before .before .before .before .before .before in
-    let if2 = c .before .before .before .before .before .before .before .before .before .before .before .before .before .before .if2 in
-    let a = start .args in
-    let p = start .pre in
-    let b = c .before .before .before .before .before .before .before .before .before .before .before .before .before .before .before .before .zero-based .ensures in
-    column-performed (ieee binary64) zeroBasedEpsilon zeroBasedTiny (a .mode) (a .stride) (a .n) (a .row) (a .column) (now (a .l)) (now (a .u)) (now (a .y)) (now (a .z)) (now (a .w)) (if2 .taken)
-    (p .1 .1 .1 .1 .1 .1 .1 .1 .0 (if2 .taken))
-    (rw (b .0, b .1) at (c .before .before .before .before .before .before .before .before .replace-column .ensures))
+    let t : tie.Then2 = search in
+    let b = column-way t .based .zero-based .ensures in
+    let a = column-way t .start .args in
+    let p = column-way t .start .pre in
+    let replace-column = let e : tie.After-replace-column = search in e .replace-column in
+    column-performed (ieee binary64) zeroBasedEpsilon zeroBasedTiny (a .mode) (a .stride) (a .n) (a .row) (a .column) (now (a .l)) (now (a .u)) (now (a .y)) (now (a .z)) (now (a .w)) (t .if2 .taken)
+    (p .1 .1 .1 .1 .1 .1 .1 .1 .0 (t .if2 .taken))
+    (rw (b .0, b .1) at (replace-column .ensures .0))
 
 same-length-11 : tie.Need-same-length-11
 same-length-11 c = search needs
@@ -99,16 +121,17 @@ same-length-15 : tie.Need-same-length-15
 same-length-15 c = search needs
 
 returns-3 : tie.Need-returns-3
+unfolding row-way
 returns-3 c =
-    let start = c .before .before .before .before .before .before .before .before .before .before .before .before .before .before .before .before .before .before .before .before .before .before .before .before .before in
-    let if3 = c .before .before .before .before .before .before .before .before .before .before .before .before .before .before .before .before .if3 in
-    let m = if3 .taken in
-    let a = start .args in
-    let p = start .pre in
-    let b = c .before .before .before .before .before .before .before .before .before .before .before .before .before .before .before .before .before .before .before .zero-based .ensures in
-    row-performed (ieee binary64) zeroBasedEpsilon zeroBasedTiny (a .mode) (a .stride) (a .n) (a .row) (a .column) (now (a .l)) (now (a .u)) (now (a .y)) (now (a .z)) (now (a .w)) (if3 .taken)
+    let t : tie.Then3 = search in
+    let m = t .if3 .taken in
+    let b = row-way t .based .zero-based .ensures in
+    let a = row-way t .start .args in
+    let p = row-way t .start .pre in
+    let replace-row = let e : tie.After-replace-row = search in e .replace-row in
+    row-performed (ieee binary64) zeroBasedEpsilon zeroBasedTiny (a .mode) (a .stride) (a .n) (a .row) (a .column) (now (a .l)) (now (a .u)) (now (a .y)) (now (a .z)) (now (a .w)) (t .if3 .taken)
     (p .1 .1 .1 .1 .1 .1 .1 .0 (omega arith))
-    (rw (b .0, b .1) at (c .before .before .before .before .before .before .before .before .before .before .replace-row .ensures))
+    (rw (b .0, b .1) at (replace-row .ensures .0))
 
 same-length-16 : tie.Need-same-length-16
 same-length-16 c = search needs
@@ -126,17 +149,19 @@ same-length-20 : tie.Need-same-length-20
 same-length-20 c = search needs
 
 returns-4 : tie.Need-returns-4
+unfolding remove-way
 returns-4 c =
-    let start = c .before .before .before .before .before .before .before .before .before .before .before .before .before .before .before .before .before .before .before .before .before .before .before .before .before in
-    let k = c .before .before .before .before .before .before .before .before .before .before .before .before .before .before .before .before .before .before .if1 .left in
-    let h = c .before .before .before .before .before .before .before .before .before .before .before .before .before .before .before .before .before .if2 .left in
-    let g = c .before .before .before .before .before .before .before .before .before .before .before .before .before .before .before .before .if3 .left in
-    let a = start .args in
-    let p = start .pre in
-    let b = c .before .before .before .before .before .before .before .before .before .before .before .before .before .before .before .before .before .before .before .zero-based .ensures in
+    let t : tie.Else3 = search in
+    let g = t .if3 .left in
+    let h = let e : tie.Else2 = search in e .if2 .left in
+    let k = let e : tie.Else1 = search in e .if1 .left in
+    let b = remove-way t .based .zero-based .ensures in
+    let a = remove-way t .start .args in
+    let p = remove-way t .start .pre in
+    let remove = let e : tie.After-remove = search in e .remove in
     remove-performed (ieee binary64) zeroBasedEpsilon zeroBasedTiny (a .mode) (a .stride) (a .n) (a .row) (a .column) (now (a .l)) (now (a .u)) (now (a .y)) (now (a .z)) (now (a .w)) (omega arith)
     (p .1 .1 .1 .1 .1 .1 .1 .0 (omega arith)) (p .1 .1 .1 .1 .1 .1 .1 .1 .1 (omega arith))
-    (rw (b .0, b .1) at (c .before .before .before .before .before .before .before .before .before .before .remove .ensures))
+    (rw (b .0, b .1) at (remove .ensures .0))
 
 pub perform-spec : {M : Type 1} → statement M
 perform-spec =

@@ -6,9 +6,17 @@ use lib.Ieee.{binary64}
 use denote.Ref.{now}
 use Rattle.numbers.specs.NumberForm.{ieee}
 use Rattle.numbers.specs.Tolerances.{tinyOf}
-use Rattle.stages.proofs.StageLaws.{column-dropped, last-column-dropped}
+use Rattle.stages.proofs.StageLaws.{column-dropped-outcome, last-column-dropped}
 use Rattle.stages.proofs.drop_column.Statement.{statement}
 use Rattle.stages.proofs.drop_column.Tie as tie
+
+-- The places before the column is written.
+record Way : Type 0 where
+  start : tie.Start
+  read : tie.After-read-u-column
+
+way : tie.After-write-u-column → Way
+way c = search
 
 sub-last : tie.Need-sub-last
 sub-last c = search needs
@@ -38,18 +46,18 @@ same-length-4 : tie.Need-same-length-4
 same-length-4 c = search needs
 
 returns : tie.Need-returns
+unfolding way
 returns c =
-    let a = c .before .before .before .before .before .before .before .before .before .before .before .before .before .before .before .before .before .before .before .before .before .before .before .before .before .before .before .before .args in
-    let p = c .before .before .before .before .before .before .before .before .before .before .before .before .before .before .before .before .before .before .before .before .before .before .before .before .before .before .before .before .pre in
-    column-dropped (ieee binary64) (a .numerics .epsilon) (tinyOf binary64 (a .numerics .epsilon) (a .numerics .«update_tiny»)) (a .stride) (a .n) (a .column) (now (a .l)) (now (a .u)) (now (a .y))
-    (now (a .w)) _ _ (omega arith) (omega arith)
-    (c .before .before .before .before .before .before .before .before .before .before .before .before .before .before .before .before .before .before .before .before .read-u-column .ensures)
-    (c .before .before .before .before .before .before .before .before .before .before .before .before .before .before .before .write-u-column .ensures)
-    (c .before .before .before .before .before .before .before .before .restore .ensures)
+    let restore = let t : tie.After-restore = search in t .restore in
+    let t : tie.After-write-u-column = search in
+    let a = way t .start .args in
+    let p = way t .start .pre in
+    column-dropped-outcome (ieee binary64) (a .numerics .epsilon) (tinyOf binary64 (a .numerics .epsilon) (a .numerics .«update_tiny»)) (a .stride) (a .n) (a .column) (now (a .l)) (now (a .u)) (now (a .y))
+    (now (a .w)) _ _ (omega arith) (omega arith) (way t .read .read-u-column .ensures) (t .write-u-column .ensures) (restore .ensures)
 
 returns-2 : tie.Need-returns-2
 returns-2 c =
-    let a = c .before .before .before .before .before .args in
+    let a = let s : tie.Start = search in s .args in
     last-column-dropped (ieee binary64) (a .numerics .epsilon) (tinyOf binary64 (a .numerics .epsilon) (a .numerics .«update_tiny»)) (a .stride) (a .n) (a .column) (now (a .l)) (now (a .u))
     (now (a .y)) (now (a .w)) (omega arith)
 

@@ -10,9 +10,17 @@ use Rattle.numbers.specs.NumberForm.{ieee}
 use Rattle.numbers.specs.Tolerances.{tinyOf}
 use native.Mathlib.Numerals.{add-one}
 use Rattle.machine.specs.Products.{entry}
-use Rattle.stages.proofs.StageLaws.{restored-performed}
+use Rattle.stages.proofs.StageLaws.{forward-counted-le, backward-counted-le, restored-outcome}
 use Rattle.stages.proofs.restore.Statement.{statement}
 use Rattle.stages.proofs.restore.Tie as tie
+
+-- The places before Backward.
+record Way : Type 0 where
+  start : tie.Start
+  trimmed : tie.After-trim
+
+way : tie.After-backward → Way
+way c = search
 
 add-trim : tie.Need-add-trim
 add-trim c = search needs
@@ -25,27 +33,29 @@ add-backward c = search needs
 
 backward-requires : tie.Need-backward-requires
 backward-requires c κs =
-    let start = c .before .before .before .before .before .before .before .before .before .before in
+    let start : tie.Start = search in
     let a = start .args in
     let p = start .pre in
-    let e = c .before .before .before .before .trim .ensures in
+    let e = let t : tie.After-trim = search in t .trim .ensures in
     (p .0, (omega arith, (p .1 .1 .0, (omega arith, (omega arith, (omega arith, omega arith))))))
 
 mul-y : tie.Need-mul-y
+unfolding way
 mul-y c =
-    let start = c .before .before .before .before .before .before .before .before .before .before .before .before .before .before .before .before .before .before .before in
-    let a = start .args in
-    let p = start .pre in
-    let e = c .before .before .before .before .before .before .before .before .before .before .before .before .before .trim .ensures in
+    let m : tie.After-backward = search in
+    let a = way m .start .args in
+    let p = way m .start .pre in
+    let e = way m .trimmed .trim .ensures in
     omega arith
 
 slice-read-y : tie.Need-slice-read-y
+unfolding way
 slice-read-y c =
-    let start = c .before .before .before .before .before .before .before .before .before .before .before .before .before .before .before .before .before .before .before .before in
-    let a = start .args in
-    let p = start .pre in
-    let e = c .before .before .before .before .before .before .before .before .before .before .before .before .before .before .trim .ensures in
-    let k = c .before .before .before .before .before .before .before .before .before .backward .ensures .v-kept .long in
+    let m : tie.After-backward = search in
+    let a = way m .start .args in
+    let p = way m .start .pre in
+    let e = way m .trimmed .trim .ensures in
+    let k = m .backward .ensures .0 .v-kept .long in
     omega arith
 
 mul-y-2 : tie.Need-mul-y-2
@@ -55,15 +65,30 @@ slice-write-y : tie.Need-slice-write-y
 slice-write-y c = search needs
 
 forward-requires : tie.Need-forward-requires
+unfolding way
 forward-requires c κs =
-    let start = c .before .before .before .before .before .before .before .before .before .before .before .before .before .before .before .before .before .before .before .before .before .before .before in
-    let a = start .args in
-    let p = start .pre in
-    let e = c .before .before .before .before .before .before .before .before .before .before .before .before .before .before .before .before .before .trim .ensures in
-    let k = c .before .before .before .before .before .before .before .before .before .before .before .before .backward .ensures in (
+    let m : tie.After-backward = search in
+    let a = way m .start .args in
+    let p = way m .start .pre in
+    let e = way m .trimmed .trim .ensures in
+    let k = m .backward .ensures .0 in (
       record { stride = p .0 .stride; dimension = p .0 .dimension; l-long = rw (k .l-kept .long) (p .0 .l-long); u-long = rw (k .u-kept .long) (p .0 .u-long) },
       (rw (length-set, k .y-kept .long) (omega arith), (omega arith, (omega arith, (omega arith, omega arith)))),
     )
+
+add-result : tie.Need-add-result
+unfolding way
+add-result c =
+    let forward = let t : tie.After-forward = search in t .forward in
+    let m : tie.After-backward = search in
+    let after-trim = way m .trimmed .trim in
+    let after-backward = m .backward in
+    let a = way m .start .args in
+    let p = way m .start .pre in
+    let e = after-trim .ensures in
+    let b = backward-counted-le (ieee binary64) (a .numerics .epsilon) (tinyOf binary64 (a .numerics .epsilon) (a .numerics .«update_tiny»)) _ _ _ _ (after-backward .ensures .1) in
+    let f = forward-counted-le (ieee binary64) (a .numerics .epsilon) (tinyOf binary64 (a .numerics .epsilon) (a .numerics .«update_tiny»)) _ _ _ _ (forward .ensures .1) in
+    omega arith
 
 same-length : tie.Need-same-length
 same-length c = search needs
@@ -72,22 +97,29 @@ same-length-2 : tie.Need-same-length-2
 same-length-2 c = search needs
 
 same-length-3 : tie.Need-same-length-3
-same-length-3 c = rw length-set at (c .before .before .before .before .before .before .forward .ensures .y-kept .long) ∙ c .before .before .before .before .before .before .before .before .before .before .before .before .before .before .before .before .before .before .before .backward .ensures .y-kept .long
+same-length-3 c =
+    let forward = let t : tie.After-forward = search in t .forward in
+    let backward = let t : tie.After-backward = search in t .backward in
+    rw length-set at (forward .ensures .0 .y-kept .long) ∙ backward .ensures .0 .y-kept .long
 
 same-length-4 : tie.Need-same-length-4
 same-length-4 c = search needs
 
 returns : tie.Need-returns
+unfolding way
 returns c =
-    let start = c .before .before .before .before .before .before .before .before .before .before .before .before .before .before .before .before .before .before .before .before .before .before .before .before .before .before .before .before .before .before in
-    let after-trim = c .before .before .before .before .before .before .before .before .before .before .before .before .before .before .before .before .before .before .before .before .before .before .before .before .trim in
-    let after-backward = c .before .before .before .before .before .before .before .before .before .before .before .before .before .before .before .before .before .before .before .backward in
-    let a = start .args in
-    let p = start .pre in
-    let k = after-backward .ensures .y-kept .long in
-    restored-performed (ieee binary64) (a .numerics .epsilon) (tinyOf binary64 (a .numerics .epsilon) (a .numerics .«update_tiny»)) (a .stride) (a .n) (a .column) (a .last) (a .columns)
-    (after-trim .result) _ _ _ (now (a .w)) _ _ (omega arith) (omega arith) (omega arith) (omega arith) (omega arith)
-    (rw add-one at (after-trim .ensures .0)) (rw add-one at (after-backward .ensures)) (c .before .before .before .before .before .before .forward .ensures)
+    let forward = let t : tie.After-forward = search in t .forward in
+    let m : tie.After-backward = search in
+    let after-trim = way m .trimmed .trim in
+    let after-backward = m .backward in
+    let a = way m .start .args in
+    let p = way m .start .pre in
+    let k = after-backward .ensures .0 .y-kept .long in
+    let is-s = rw add-one at (after-trim .ensures .0) in
+    let performed = rw add-one at (after-backward .ensures .0) in
+    restored-outcome (ieee binary64) (a .numerics .epsilon) (tinyOf binary64 (a .numerics .epsilon) (a .numerics .«update_tiny»)) (a .stride) (a .n) (a .column) (a .last) (a .columns)
+    (after-trim .result) _ _ _ (now (a .w)) _ _ (omega arith) (omega (arith, p, k)) (omega arith) (omega arith) (omega arith)
+    is-s performed (rw add-one at (after-backward .ensures .1)) (forward .ensures)
 
 pub restore-spec : {M : Type 1} → statement M
 restore-spec =
@@ -102,6 +134,7 @@ restore-spec =
     mul-y-2
     slice-write-y
     forward-requires
+    add-result
     same-length
     same-length-2
     same-length-3

@@ -12,12 +12,12 @@ use Rattle.stages.proofs.set_unit_row.Tie as tie
 
 mul-fill : tie.Need-mul-fill
 mul-fill c =
-    let start = c .before .before in
+    let start : tie.Start = search in
     omega (arith, row-fits (start .args .stride) (start .args .row) (omega arith) (omega arith))
 
 fill-requires : tie.Need-fill-requires
 fill-requires c κs =
-    let start = c .before .before in
+    let start : tie.Start = search in
     let h = row-before (start .args .stride) (start .args .row) (start .args .stride) (omega arith) in omega arith
 
 l-index-requires : tie.Need-l-index-requires
@@ -34,8 +34,8 @@ same-length c = search needs
 
 returns : tie.Need-returns
 returns c =
-    let start = c .before .before .before .before .before .before in
-    let after-fill = c .before .before .before .fill in
+    let start : tie.Start = search in
+    let after-fill = let t : tie.After-fill = search in t .fill in
     let a = start .args in
     let p = start .pre in
     let k = after-fill .ensures .kept .long in

@@ -6,9 +6,17 @@ use lib.Ieee.{binary64}
 use denote.Ref.{now}
 use Rattle.numbers.specs.NumberForm.{ieee}
 use Rattle.numbers.specs.Tolerances.{tinyOf}
-use Rattle.update_column.proofs.ColumnReplaced.{column-restored, last-column-replaced}
+use Rattle.update_column.proofs.ColumnReplaced.{column-outcome, last-column-outcome}
 use Rattle.update_column.proofs.replace_column.Statement.{statement}
 use Rattle.update_column.proofs.replace_column.Tie as tie
+
+-- The places before the column is written.
+record Way : Type 0 where
+  start : tie.Start
+  product : tie.After-l-product
+
+way : tie.After-write-u-column → Way
+way c = search
 
 l-product-requires : tie.Need-l-product-requires
 l-product-requires c κs = search needs
@@ -41,15 +49,15 @@ same-length-4 : tie.Need-same-length-4
 same-length-4 c = search needs
 
 returns : tie.Need-returns
+unfolding way
 returns c =
-    let start = c .before .before .before .before .before .before .before .before .before .before .before .before .before .before .before .before .before .before .before .before .before .before .before .before .before .before .before .before .before in
-    let a = start .args in
-    let p = start .pre in
-    column-restored (ieee binary64) (a .numerics .epsilon) (tinyOf binary64 (a .numerics .epsilon) (a .numerics .«update_tiny»)) (a .stride) (a .n) (a .column) (now (a .l)) (now (a .u)) (now (a .y))
-    (now (a .z)) (now (a .w)) _ _ (omega arith) (omega arith)
-    (c .before .before .before .before .before .before .before .before .before .before .before .before .before .before .before .before .before .before .before .before .before .l-product .ensures)
-    (c .before .before .before .before .before .before .before .before .before .before .before .before .before .before .before .before .write-u-column .ensures) (omega arith)
-    (c .before .before .before .before .before .before .before .before .restore .ensures)
+    let restore = let t : tie.After-restore = search in t .restore in
+    let g = let t : tie.Then1 = search in t .if1 .taken in
+    let t : tie.After-write-u-column = search in
+    let a = way t .start .args in
+    let p = way t .start .pre in
+    column-outcome (ieee binary64) (a .numerics .epsilon) (tinyOf binary64 (a .numerics .epsilon) (a .numerics .«update_tiny»)) (a .stride) (a .n) (a .column) (now (a .l)) (now (a .u)) (now (a .y))
+    (now (a .z)) (now (a .w)) _ _ (omega arith) (omega arith) (way t .product .l-product .ensures) (t .write-u-column .ensures) (omega (arith, g)) (restore .ensures)
 
 same-length-5 : tie.Need-same-length-5
 same-length-5 c = search needs
@@ -61,13 +69,13 @@ same-length-7 : tie.Need-same-length-7
 same-length-7 c = search needs
 
 returns-2 : tie.Need-returns-2
+unfolding way
 returns-2 c =
-    let start = c .before .before .before .before .before .before .before .before .before .before .before .before .before .before .before .before in
-    let a = start .args in
-    let p = start .pre in
-    last-column-replaced (ieee binary64) (a .numerics .epsilon) (tinyOf binary64 (a .numerics .epsilon) (a .numerics .«update_tiny»)) (a .stride) (a .n) (a .column) (now (a .l)) (now (a .u))
-    (now (a .y)) (now (a .z)) (now (a .w)) _ _ (omega arith) (omega arith)
-    (c .before .before .before .before .before .before .before .before .l-product .ensures) (c .before .before .before .write-u-column .ensures) (omega arith)
+    let t : tie.After-write-u-column = search in
+    let a = way t .start .args in
+    let p = way t .start .pre in
+    last-column-outcome (ieee binary64) (a .numerics .epsilon) (tinyOf binary64 (a .numerics .epsilon) (a .numerics .«update_tiny»)) (a .stride) (a .n) (a .column) (now (a .l)) (now (a .u))
+    (now (a .y)) (now (a .z)) (now (a .w)) _ _ (omega arith) (omega arith) (way t .product .l-product .ensures) (t .write-u-column .ensures) (omega arith)
 
 pub replace-column-spec : {M : Type 1} → statement M
 replace-column-spec =

@@ -8,9 +8,19 @@ use lib.ListN.{length-set}
 use denote.Ref.{now}
 use Rattle.numbers.specs.NumberForm.{ieee}
 use Rattle.numbers.specs.Tolerances.{tinyOf}
-use Rattle.update_push.proofs.Border.{push-done}
+use Rattle.update_push.proofs.Border.{push-outcome}
 use Rattle.update_push.proofs.push.Statement.{statement}
 use Rattle.update_push.proofs.push.Tie as tie
+
+-- The places before U's column is written.
+record Way : Type 0 where
+  start : tie.Start
+  product : tie.After-l-product
+  cleared : tie.After-clear-l-column
+  unit : tie.After-set-unit-row
+
+way : tie.After-write-u-column → Way
+way c = search
 
 sub-last : tie.Need-sub-last
 sub-last c = search needs
@@ -28,23 +38,32 @@ write-u-column-requires : tie.Need-write-u-column-requires
 write-u-column-requires c κs = search needs
 
 u-index-requires : tie.Need-u-index-requires
-u-index-requires c κs = let p = c .before .before .before .before .before .before .before .before .before .before .before .before .before .before .before .before .before .before .before .before .before .before .before .pre in omega arith
+unfolding way
+u-index-requires c κs =
+    let t : tie.After-write-u-column = search in
+    let p = way t .start .pre in
+    omega arith
 
 mul-u : tie.Need-mul-u
+unfolding way
 mul-u c =
-    let start = c .before .before .before .before .before .before .before .before .before .before .before .before .before .before .before .before .before .before .before .before .before .before .before .before in
-    let p = start .pre in let k = c .before .before .before .write-u-column .ensures .kept .long in let g = start .good in omega arith
+    let t : tie.After-write-u-column = search in
+    let p = way t .start .pre in
+    let k = t .write-u-column .ensures .kept .long in
+    let g = way t .start .good in
+    omega arith
 
 slice-write-u : tie.Need-slice-write-u
 slice-write-u c = search needs
 
 forward-requires : tie.Need-forward-requires
+unfolding way
 forward-requires c κs =
-    let start = c .before .before .before .before .before .before .before .before .before .before .before .before .before .before .before .before .before .before .before .before .before .before .before .before .before .before .before in
-    let a = start .args in
-    let p = start .pre in (
+    let t : tie.After-write-u-column = search in
+    let a = way t .start .args in
+    let p = way t .start .pre in (
       record
-          { stride = p .0 .stride; dimension = p .0 .dimension; l-long = rw (c .before .before .before .before .before .before .before .before .before .before .before .set-unit-row .ensures .kept .long, c .before .before .before .before .before .before .before .before .before .before .before .before .before .before .before .clear-l-column .ensures .kept .long) (p .0 .l-long); u-long = rw (length-set, c .before .before .before .before .before .before .write-u-column .ensures .kept .long) (p .0 .u-long) },
+          { stride = p .0 .stride; dimension = p .0 .dimension; l-long = rw (way t .unit .set-unit-row .ensures .kept .long, way t .cleared .clear-l-column .ensures .kept .long) (p .0 .l-long); u-long = rw (length-set, t .write-u-column .ensures .kept .long) (p .0 .u-long) },
       (omega arith, (omega arith, (omega arith, (omega arith, omega arith)))),
     )
 
@@ -52,7 +71,10 @@ same-length : tie.Need-same-length
 same-length c = search needs
 
 same-length-2 : tie.Need-same-length-2
-same-length-2 c = rw length-set at (c .before .before .before .before .before .before .forward .ensures .u-kept .long) ∙ c .before .before .before .before .before .before .before .before .before .before .before .before .before .write-u-column .ensures .kept .long
+same-length-2 c =
+    let forward = let t : tie.After-forward = search in t .forward in
+    let write-u-column = let t : tie.After-write-u-column = search in t .write-u-column in
+    rw length-set at (forward .ensures .0 .u-kept .long) ∙ write-u-column .ensures .kept .long
 
 same-length-3 : tie.Need-same-length-3
 same-length-3 c = search needs
@@ -61,19 +83,18 @@ same-length-4 : tie.Need-same-length-4
 same-length-4 c = search needs
 
 returns : tie.Need-returns
+unfolding way
 returns c =
-    let start = c .before .before .before .before .before .before .before .before .before .before .before .before .before .before .before .before .before .before .before .before .before .before .before .before .before .before .before .before .before .before .before .before .before .before in
-    let write-u-column = c .before .before .before .before .before .before .before .before .before .before .before .before .before .write-u-column in
-    let u-index = c .before .before .before .before .before .before .before .before .before .before .u-index in
-    let a = start .args in
-    let p = start .pre in
+    let forward = let t : tie.After-forward = search in t .forward in
+    let t : tie.After-write-u-column = search in
+    let write-u-column = t .write-u-column in
+    let u-index = let i : tie.After-u-index = search in i .u-index in
+    let a = way t .start .args in
+    let p = way t .start .pre in
     let k = write-u-column .ensures .kept .long in
-    push-done (ieee binary64) (a .numerics .epsilon) (tinyOf binary64 (a .numerics .epsilon) (a .numerics .«update_tiny»)) (a .stride) (a .n) (u-index .result) (now (a .l)) (now (a .u)) (now (a .y))
-    (now (a .z)) (now (a .w)) _ _ _ _ (omega arith) (omega arith)
-    (c .before .before .before .before .before .before .before .before .before .before .before .before .before .before .before .before .before .before .before .before .before .before .before .before .before .before .l-product .ensures)
-    (c .before .before .before .before .before .before .before .before .before .before .before .before .before .before .before .before .before .before .before .before .before .before .clear-l-column .ensures)
-    (c .before .before .before .before .before .before .before .before .before .before .before .before .before .before .before .before .before .before .set-unit-row .ensures) (write-u-column .ensures)
-    (u-index .ensures .0) (omega arith) (c .before .before .before .before .before .before .forward .ensures)
+    push-outcome (ieee binary64) (a .numerics .epsilon) (tinyOf binary64 (a .numerics .epsilon) (a .numerics .«update_tiny»)) (a .stride) (a .n) (u-index .result) (now (a .l)) (now (a .u)) (now (a .y))
+    (now (a .z)) (now (a .w)) _ _ _ _ (omega arith) (omega arith) (way t .product .l-product .ensures) (way t .cleared .clear-l-column .ensures)
+    (way t .unit .set-unit-row .ensures) (write-u-column .ensures) (u-index .ensures .0) (omega arith) (forward .ensures)
 
 pub push-spec : {M : Type 1} → statement M
 push-spec =

@@ -6,9 +6,18 @@ use lib.Ieee.{binary64}
 use denote.Ref.{now}
 use Rattle.numbers.specs.NumberForm.{ieee}
 use Rattle.numbers.specs.Tolerances.{tinyOf}
-use Rattle.update_remove.proofs.Removed.{remove-done}
+use Rattle.stages.proofs.StageLaws.{backward-counted-le, column-dropped-counted-le}
+use Rattle.update_remove.proofs.Removed.{remove-outcome}
 use Rattle.update_remove.proofs.remove.Statement.{statement}
 use Rattle.update_remove.proofs.remove.Tie as tie
+
+-- The places before L's column is read.
+record Way : Type 0 where
+  start : tie.Start
+  dropped : tie.After-drop-column
+
+way : tie.After-read-l-column → Way
+way c = search
 
 drop-column-requires : tie.Need-drop-column-requires
 drop-column-requires c κs = search needs
@@ -20,18 +29,34 @@ read-l-column-requires : tie.Need-read-l-column-requires
 read-l-column-requires c κs = search needs
 
 copy-l-column-requires : tie.Need-copy-l-column-requires
-copy-l-column-requires c κs = search needs
+unfolding way
+copy-l-column-requires c κs =
+    let r : tie.After-read-l-column = search in
+    let p = way r .start .pre in search needs
 
 backward-requires : tie.Need-backward-requires
+unfolding way
 backward-requires c κs =
-    let start = c .before .before .before .before .before .before .before .before .before .before .before .before .before .before .before .before .before .before .before .before .before .before .before .before .before .before .before .before .before .before .before in
-    let a = start .args in
-    let p = start .pre in
-    let d = c .before .before .before .before .before .before .before .before .before .before .before .before .before .before .before .before .before .before .before .before .before .drop-column .ensures in (
+    let copy-l-column = let t : tie.After-copy-l-column = search in t .copy-l-column in
+    let r : tie.After-read-l-column = search in
+    let a = way r .start .args in
+    let p = way r .start .pre in
+    let d = way r .dropped .drop-column .ensures .0 in (
       record
-          { stride = p .0 .stride; dimension = p .0 .dimension; l-long = rw (c .before .before .before .before .before .before .copy-l-column .ensures .kept .long, d .l-kept .long) (p .0 .l-long); u-long = rw (d .u-kept .long) (p .0 .u-long) },
-      (omega arith, (rw (c .before .before .before .before .before .before .before .before .before .before .read-l-column .ensures .kept .long, d .w-kept .long) (omega arith), (omega arith, (omega arith, (omega arith, omega arith))))),
+          { stride = p .0 .stride; dimension = p .0 .dimension; l-long = rw (copy-l-column .ensures .kept .long, d .l-kept .long) (p .0 .l-long); u-long = rw (d .u-kept .long) (p .0 .u-long) },
+      (omega arith, (rw (r .read-l-column .ensures .kept .long, d .w-kept .long) (omega arith), (omega arith, (omega arith, (omega arith, omega arith))))),
     )
+
+add-result : tie.Need-add-result
+unfolding way
+add-result c =
+    let backward = let t : tie.After-backward = search in t .backward in
+    let r : tie.After-read-l-column = search in
+    let a = way r .start .args in
+    let p = way r .start .pre in
+    let k = column-dropped-counted-le (ieee binary64) (a .numerics .epsilon) (tinyOf binary64 (a .numerics .epsilon) (a .numerics .«update_tiny»)) _ _ _ _ (way r .dropped .drop-column .ensures .1) in
+    let b = backward-counted-le (ieee binary64) (a .numerics .epsilon) (tinyOf binary64 (a .numerics .epsilon) (a .numerics .«update_tiny»)) _ _ _ _ (backward .ensures .1) in
+    omega arith
 
 same-length : tie.Need-same-length
 same-length c = search needs
@@ -49,16 +74,16 @@ same-length-5 : tie.Need-same-length-5
 same-length-5 c = search needs
 
 returns : tie.Need-returns
+unfolding way
 returns c =
-    let start = c .before .before .before .before .before .before .before .before .before .before .before .before .before .before .before .before .before .before .before .before .before .before .before .before .before .before .before .before .before .before .before .before .before .before .before .before .before .before .before .before in
-    let a = start .args in
-    let p = start .pre in
-    remove-done (ieee binary64) (a .numerics .epsilon) (tinyOf binary64 (a .numerics .epsilon) (a .numerics .«update_tiny»)) (a .stride) (a .n) (a .row) (a .column) (now (a .l)) (now (a .u))
-    (now (a .y)) (now (a .z)) (now (a .w)) _ _ _ _ _ (omega arith) (omega arith)
-    (c .before .before .before .before .before .before .before .before .before .before .before .before .before .before .before .before .before .before .before .before .before .before .before .before .before .before .before .before .before .before .drop-column .ensures)
-    (c .before .before .before .before .before .before .before .before .before .before .before .before .before .before .before .before .before .before .before .read-l-column .ensures)
-    (c .before .before .before .before .before .before .before .before .before .before .before .before .before .before .before .copy-l-column .ensures)
-    (c .before .before .before .before .before .before .before .before .backward .ensures)
+    let backward = let t : tie.After-backward = search in t .backward in
+    let copy-l-column = let t : tie.After-copy-l-column = search in t .copy-l-column in
+    let r : tie.After-read-l-column = search in
+    let a = way r .start .args in
+    let p = way r .start .pre in
+    remove-outcome (ieee binary64) (a .numerics .epsilon) (tinyOf binary64 (a .numerics .epsilon) (a .numerics .«update_tiny»)) (a .stride) (a .n) (a .row) (a .column) (now (a .l)) (now (a .u))
+    (now (a .y)) (now (a .z)) (now (a .w)) _ _ _ _ _ (omega arith) (omega arith) (way r .dropped .drop-column .ensures .0) (r .read-l-column .ensures) (copy-l-column .ensures)
+    (way r .dropped .drop-column .ensures .1) (backward .ensures)
 
 pub remove-spec : {M : Type 1} → statement M
 remove-spec =
@@ -69,6 +94,7 @@ remove-spec =
     read-l-column-requires
     copy-l-column-requires
     backward-requires
+    add-result
     same-length
     same-length-2
     same-length-3

@@ -7,9 +7,22 @@ use lib.Ieee.{binary64}
 use denote.Ref.{now}
 use Rattle.numbers.specs.NumberForm.{ieee}
 use Rattle.numbers.specs.Tolerances.{tinyOf}
-use Rattle.update_row.proofs.RowReplaced.{replace-row-done}
+use Rattle.stages.proofs.StageLaws.{forward-counted-le, backward-counted-le}
+use Rattle.update_row.proofs.RowReplaced.{replace-row-outcome}
 use Rattle.update_row.proofs.replace_row.Statement.{statement}
 use Rattle.update_row.proofs.replace_row.Tie as tie
+
+-- The places before the row is trimmed.
+record Way : Type 0 where
+  start : tie.Start
+  read : tie.After-read-l-column
+  cleared : tie.After-clear-l-column
+
+way : tie.After-trim → Way
+way c = search
+
+trimmed : tie.After-backward → tie.After-trim
+trimmed c = search
 
 read-l-column-requires : tie.Need-read-l-column-requires
 read-l-column-requires c κs = search needs
@@ -24,40 +37,61 @@ trim-requires : tie.Need-trim-requires
 trim-requires c κs = search needs
 
 backward-requires : tie.Need-backward-requires
+unfolding way
 backward-requires c κs =
-    let start = c .before .before .before .before .before .before .before .before .before .before .before .before .before .before .before .before .before .before .before .before in
-    let a = start .args in
-    let p = start .pre in
-    let e = c .before .before .before .before .trim .ensures in (
+    let t : tie.After-trim = search in
+    let p = way t .start .pre in
+    let e = t .trim .ensures in (
       record
-          { stride = p .0 .stride; dimension = p .0 .dimension; l-long = rw (c .before .before .before .before .before .before .before .before .clear-l-column .ensures .kept .long) (p .0 .l-long); u-long = p .0 .u-long },
-      (omega arith, (rw (c .before .before .before .before .before .before .before .before .before .before .before .before .read-l-column .ensures .kept .long) (omega arith), (omega arith, (omega arith, (omega arith, omega arith))))),
+          { stride = p .0 .stride; dimension = p .0 .dimension; l-long = rw (way t .cleared .clear-l-column .ensures .kept .long) (p .0 .l-long); u-long = p .0 .u-long },
+      (omega arith, (rw (way t .read .read-l-column .ensures .kept .long) (omega arith), (omega arith, (omega arith, (omega arith, omega arith))))),
     )
 
 set-unit-row-requires : tie.Need-set-unit-row-requires
+unfolding way trimmed
 set-unit-row-requires c κs =
-    let start = c .before .before .before .before .before .before .before .before .before .before .before .before .before .before .before .before .before .before .before .before .before .before .before .before .before .before .before .before .before .before in
-    let a = start .args in
-    let p = start .pre in
-    let e = c .before .before .before .before .before .before .before .before .before .before .before .before .before .before .trim .ensures in
-    let k = c .before .before .before .before .before .before .before .before .before .backward .ensures .l-kept .long in
-    let g = c .before .before .before .before .before .before .before .before .before .before .before .before .before .before .before .before .before .before .clear-l-column .ensures .kept .long in
+    let b : tie.After-backward = search in
+    let t = trimmed b in
+    let p = way t .start .pre in
+    let e = t .trim .ensures in
+    let k = b .backward .ensures .0 .l-kept .long in
+    let g = way t .cleared .clear-l-column .ensures .kept .long in
     (omega arith, (omega arith, (omega arith, (omega arith, omega arith))))
 
 forward-requires : tie.Need-forward-requires
+unfolding way trimmed
 forward-requires c κs =
-    let start = c .before .before .before .before .before .before .before .before .before .before .before .before .before .before .before .before .before .before .before .before .before .before .before .before .before .before .before .before .before .before .before .before .before .before .before .before in
-    let a = start .args in
-    let p = start .pre in
-    let e = c .before .before .before .before .before .before .before .before .before .before .before .before .before .before .before .before .before .before .before .before .trim .ensures in
-    let k = c .before .before .before .before .before .before .before .before .before .before .before .before .before .before .before .backward .ensures in (
+    let u : tie.After-set-unit-row = search in
+    let b : tie.After-backward = search in
+    let t = trimmed b in
+    let p = way t .start .pre in
+    let e = t .trim .ensures in
+    let k = b .backward .ensures .0 in (
       record
-          { stride = p .0 .stride; dimension = p .0 .dimension; l-long = rw (c .before .before .before .before .before .set-unit-row .ensures .kept .long, k .l-kept .long, c .before .before .before .before .before .before .before .before .before .before .before .before .before .before .before .before .before .before .before .before .before .before .before .before .clear-l-column .ensures .kept .long) (p .0 .l-long); u-long = rw (k .u-kept .long) (p .0 .u-long) },
+          { stride = p .0 .stride; dimension = p .0 .dimension; l-long = rw (u .set-unit-row .ensures .kept .long, k .l-kept .long, way t .cleared .clear-l-column .ensures .kept .long) (p .0 .l-long); u-long = rw (k .u-kept .long) (p .0 .u-long) },
       (omega arith, (omega arith, (omega arith, (omega arith, omega arith)))),
     )
 
+add-result : tie.Need-add-result
+unfolding way trimmed
+add-result c =
+    let n : tie.After-forward = search in
+    let b : tie.After-backward = search in
+    let t = trimmed b in
+    let a = way t .start .args in
+    let p = way t .start .pre in
+    let e = t .trim .ensures in
+    let k = backward-counted-le (ieee binary64) (a .numerics .epsilon) (tinyOf binary64 (a .numerics .epsilon) (a .numerics .«update_tiny»)) _ _ _ _ (b .backward .ensures .1) in
+    let f = forward-counted-le (ieee binary64) (a .numerics .epsilon) (tinyOf binary64 (a .numerics .epsilon) (a .numerics .«update_tiny»)) _ _ _ _ (n .forward .ensures .1) in
+    omega arith
+
 same-length : tie.Need-same-length
-same-length c = c .before .before .before .before .before .before .forward .ensures .l-kept .long ∙ c .before .before .before .before .before .before .before .before .before .before .before .before .set-unit-row .ensures .kept .long ∙ c .before .before .before .before .before .before .before .before .before .before .before .before .before .before .before .before .before .before .before .before .before .before .backward .ensures .l-kept .long ∙ c .before .before .before .before .before .before .before .before .before .before .before .before .before .before .before .before .before .before .before .before .before .before .before .before .before .before .before .before .before .before .before .clear-l-column .ensures .kept .long
+unfolding way trimmed
+same-length c =
+    let f : tie.After-forward = search in
+    let u : tie.After-set-unit-row = search in
+    let b : tie.After-backward = search in
+    f .forward .ensures .0 .l-kept .long ∙ u .set-unit-row .ensures .kept .long ∙ b .backward .ensures .0 .l-kept .long ∙ way (trimmed b) .cleared .clear-l-column .ensures .kept .long
 
 same-length-2 : tie.Need-same-length-2
 same-length-2 c = search needs
@@ -69,21 +103,25 @@ same-length-4 : tie.Need-same-length-4
 same-length-4 c = search needs
 
 same-length-5 : tie.Need-same-length-5
-same-length-5 c = c .before .before .before .before .before .before .before .before .before .before .before .before .before .before .before .before .before .before .before .before .before .before .backward .ensures .v-kept .long ∙ c .before .before .before .before .before .before .before .before .before .before .before .before .before .before .before .before .before .before .before .before .before .before .before .before .before .before .before .before .before .before .before .before .before .before .before .read-l-column .ensures .kept .long
+unfolding way trimmed
+same-length-5 c =
+    let b : tie.After-backward = search in
+    b .backward .ensures .0 .v-kept .long ∙ way (trimmed b) .read .read-l-column .ensures .kept .long
 
 returns : tie.Need-returns
+unfolding way trimmed
 returns c =
-    let start = c .before .before .before .before .before .before .before .before .before .before .before .before .before .before .before .before .before .before .before .before .before .before .before .before .before .before .before .before .before .before .before .before .before .before .before .before .before .before .before .before .before .before .before in
-    let after-trim = c .before .before .before .before .before .before .before .before .before .before .before .before .before .before .before .before .before .before .before .before .before .before .before .before .before .before .before .trim in
-    let a = start .args in
-    let p = start .pre in
-    replace-row-done (ieee binary64) (a .numerics .epsilon) (tinyOf binary64 (a .numerics .epsilon) (a .numerics .«update_tiny»)) (a .stride) (a .n) (a .row) (after-trim .result) (now (a .l))
-    (now (a .u)) (now (a .y)) (now (a .z)) (now (a .w)) _ _ (omega arith) (omega arith)
-    (c .before .before .before .before .before .before .before .before .before .before .before .before .before .before .before .before .before .before .before .before .before .before .before .before .before .before .before .before .before .before .before .before .before .before .before .read-l-column .ensures)
-    (c .before .before .before .before .before .before .before .before .before .before .before .before .before .before .before .before .before .before .before .before .before .before .before .before .before .before .before .before .before .before .before .clear-l-column .ensures)
-    (after-trim .ensures .0)
-    (c .before .before .before .before .before .before .before .before .before .before .before .before .before .before .before .before .before .before .before .before .before .before .backward .ensures)
-    (c .before .before .before .before .before .before .before .before .before .before .before .before .set-unit-row .ensures) (c .before .before .before .before .before .before .forward .ensures)
+    let f : tie.After-forward = search in
+    let u : tie.After-set-unit-row = search in
+    let b : tie.After-backward = search in
+    let t = trimmed b in
+    let w = way t in
+    let a = w .start .args in
+    let p = w .start .pre in
+    replace-row-outcome (ieee binary64) (a .numerics .epsilon) (tinyOf binary64 (a .numerics .epsilon) (a .numerics .«update_tiny»)) (a .stride) (a .n) (a .row) (t .trim .result) (now (a .l))
+    (now (a .u)) (now (a .y)) (now (a .z)) (now (a .w)) _ _ (omega (arith, p)) (omega (arith, p))
+    (w .read .read-l-column .ensures) (w .cleared .clear-l-column .ensures) (t .trim .ensures .0) (b .backward .ensures .0) (u .set-unit-row .ensures) (f .forward .ensures .0)
+    (b .backward .ensures .1) (f .forward .ensures .1)
 
 pub replace-row-spec : {M : Type 1} → statement M
 replace-row-spec =
@@ -96,6 +134,7 @@ replace-row-spec =
     backward-requires
     set-unit-row-requires
     forward-requires
+    add-result
     same-length
     same-length-2
     same-length-3

@@ -22,17 +22,32 @@ test-replacement-requires c κs = search needs
 enum-known-test : tie.Need-enum-known-test
 enum-known-test c = search needs
 
+refused-requires : tie.Need-refused-requires
+refused-requires c κs = search needs
+
 returns : tie.Need-returns
-returns c = let a = c .before .before .before .before .before .before .before .before .before .before .args in
-    outcome-refused (ieee binary64) (managedEpsilon binary64) (managedTiny binary64) (calls.replaceRow (a .row .0) (now (a .values))) (instance (a .self .n) (a .self .capacity) (now (a .l)) (now (a .u)) (now (a .y)) (now (a .z)) (now (a .w)))
-    (row-tested (ieee binary64) (a .self .n) (a .self .capacity) (now (a .l)) (now (a .u)) (now (a .y)) (now (a .z)) (now (a .w)) (a .row .0) (now (a .values)) ∙ sym (c .before .before .before .test-replacement .ensures) ∙ ap testOf (c .before .test .given .1))
+returns c =
+    let g : tie.After-test = search in
+    let t : tie.After-test-replacement = search in
+    let start : tie.Start = search in
+    let a = start .args in
+    let h = c .refused .ensures in
+    rw (h .0, h .1 .0, h .1 .1)
+    (outcome-refused (ieee binary64) (managedEpsilon binary64) (managedTiny binary64) (calls.replaceRow (a .row .0) (now (a .values))) (instance (a .self .n) (a .self .capacity) (a .self .counter) (now (a .l)) (now (a .u)) (now (a .y)) (now (a .z)) (now (a .w)))
+    (row-tested (ieee binary64) (a .self .n) (a .self .capacity) (a .self .counter) (now (a .l)) (now (a .u)) (now (a .y)) (now (a .z)) (now (a .w)) (a .row .0) (now (a .values)) ∙ sym (t .test-replacement .ensures) ∙ ap testOf (g .test .given .1)))
 
 enum-told : tie.Need-enum-told
 enum-told c = search needs
 
 replace-row-requires : tie.Need-replace-row-requires
-replace-row-requires c κs = let r = replacement-passed _ _ _ _ _ _ (sym (c .before .before .before .before .before .before .before .test-replacement .ensures) ∙ ap testOf (c .before .before .before .before .before .enum-told .given .1)) in
+replace-row-requires c κs =
+    let e : tie.After-enum-told = search in
+    let t : tie.After-test-replacement = search in
+    let r = replacement-passed _ _ _ _ _ _ (sym (t .test-replacement .ensures) ∙ ap testOf (e .enum-told .given .1)) in
     (room (ieee binary64) _ (r .0 .storage .dimension) (r .0 .storage), (r .0 .y, (r .0 .z, (r .0 .w, (omega (arith, r .2), omega (arith, r .1))))))
+
+updated-requires : tie.Need-updated-requires
+updated-requires c κs = search needs
 
 same-length : tie.Need-same-length
 same-length c = search needs
@@ -50,8 +65,15 @@ same-length-5 : tie.Need-same-length-5
 same-length-5 c = search needs
 
 returns-2 : tie.Need-returns-2
-returns-2 c = let a = c .before .before .before .before .before .before .before .before .before .before .before .before .before .before .before .before .before .before .before .before .before .before .before .before .before .args in
-    row-outcome (ieee binary64) (managedEpsilon binary64) (managedTiny binary64) (a .self .n) (a .self .capacity) (now (a .l)) (now (a .u)) (now (a .y)) (now (a .z)) (now (a .w)) (a .row .0) (now (a .values)) (sym (c .before .before .before .before .before .before .before .before .before .before .before .before .before .before .before .before .before .before .test-replacement .ensures) ∙ ap testOf (c .before .before .before .before .before .before .before .before .before .before .before .before .before .before .before .before .enum-told .given .1)) (c .before .before .before .before .before .before .before .before .before .before .replace-row .ensures)
+returns-2 c =
+    let r : tie.After-replace-row = search in
+    let e : tie.After-enum-told = search in
+    let t : tie.After-test-replacement = search in
+    let start : tie.Start = search in
+    let a = start .args in
+    let h = c .updated .ensures in
+    rw (h .0, h .1 .0)
+    (row-outcome (ieee binary64) (managedEpsilon binary64) (managedTiny binary64) (a .self .n) (a .self .capacity) (a .self .counter) (now (a .l)) (now (a .u)) (now (a .y)) (now (a .z)) (now (a .w)) (a .row .0) (now (a .values)) (sym (t .test-replacement .ensures) ∙ ap testOf (e .enum-told .given .1)) (r .replace-row .ensures .0) (r .replace-row .ensures .1) (h .1 .1))
 
 pub replace-row-spec : {M : Type 1} → statement M
 replace-row-spec =
@@ -59,9 +81,11 @@ replace-row-spec =
     (tie.spec
     test-replacement-requires
     enum-known-test
+    refused-requires
     returns
     enum-told
     replace-row-requires
+    updated-requires
     same-length
     same-length-2
     same-length-3

@@ -23,9 +23,12 @@ enum-known-test : tie.Need-enum-known-test
 enum-known-test c = search needs
 
 returns : tie.Need-returns
-returns c = let a = c .before .before .before .before .before .before .before .args in
-    outcome-refused (ieee binary64) (managedEpsilon binary64) (managedTiny binary64) (calls.solveTransposed (now (a .rhs))) (lentToSolve (a .self .n) (a .self .capacity) (now (a .l)) (now (a .u)))
-    (transposed-tested (ieee binary64) (a .self .n) (a .self .capacity) (now (a .l)) (now (a .u)) (now (a .rhs)) ∙ sym (c .before .before .before .test-solve .ensures) ∙ ap testOf (c .before .test .given .1))
+returns c =
+    let t : tie.After-test-solve = search in
+    let start : tie.Start = search in
+    let a = start .args in
+    outcome-refused (ieee binary64) (managedEpsilon binary64) (managedTiny binary64) (calls.solveTransposed (now (a .rhs))) (lentToSolve (a .self .n) (a .self .capacity) (a .self .counter) (now (a .l)) (now (a .u)))
+    (transposed-tested (ieee binary64) (a .self .n) (a .self .capacity) (a .self .counter) (now (a .l)) (now (a .u)) (now (a .rhs)) ∙ sym (t .test-solve .ensures) ∙ ap testOf (c .before .test .given .1))
 
 enum-told : tie.Need-enum-told
 enum-told c = search needs
@@ -42,8 +45,13 @@ same-length-2 : tie.Need-same-length-2
 same-length-2 c = search needs
 
 returns-2 : tie.Need-returns-2
-returns-2 c = let a = c .before .before .before .before .before .before .before .before .before .before .before .before .before .args in
-    transposed-outcome (ieee binary64) (managedEpsilon binary64) (managedTiny binary64) (a .self .n) (a .self .capacity) (now (a .l)) (now (a .u)) (c .before .before .before .before .solve-transposed .ensures .1) (now (a .rhs)) (sym (c .before .before .before .before .before .before .before .before .before .test-solve .ensures) ∙ ap testOf (c .before .before .before .before .before .before .before .enum-told .given .1)) (c .before .before .before .before .solve-transposed .ensures .0)
+returns-2 c =
+    let s : tie.After-solve-transposed = search in
+    let e : tie.After-enum-told = search in
+    let t : tie.After-test-solve = search in
+    let start : tie.Start = search in
+    let a = start .args in
+    transposed-outcome (ieee binary64) (managedEpsilon binary64) (managedTiny binary64) (a .self .n) (a .self .capacity) (a .self .counter) (now (a .l)) (now (a .u)) (s .solve-transposed .ensures .1) (now (a .rhs)) (sym (t .test-solve .ensures) ∙ ap testOf (e .enum-told .given .1)) (s .solve-transposed .ensures .0)
 
 pub solve-transpose-in-place-spec : {M : Type 1} → statement M
 solve-transpose-in-place-spec =

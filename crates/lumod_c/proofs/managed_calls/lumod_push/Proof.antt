@@ -30,8 +30,10 @@ same-length-5 c = search needs
 
 returns : tie.Need-returns
 returns c =
-    let a = c .before .before .before .before .before .before .before .before .before .before .before .before .before .before .before .before .before .before .before .before .before .before .before .before .before .args in
-    returned (calls.push (now (a .row)) (now (a .column)) (a .diagonal)) (instance (now (a .n)) (a .c) (now (a .l)) (now (a .u)) (now (a .y)) (now (a .z)) (now (a .w))) (c .before .before .before .before .before .before .before .before .before .before .before .push .ensures) (c .answer-number .ensures) tt
+    let p : tie.After-push = search in
+    let start : tie.Start = search in
+    let a = start .args in
+    returned (calls.push (now (a .row)) (now (a .column)) (a .diagonal)) (instance (now (a .n)) (a .c) (now (a .counter)) (now (a .l)) (now (a .u)) (now (a .y)) (now (a .z)) (now (a .w))) (p .push .ensures) (c .answer-number .ensures) tt
 
 pub lumod-push-spec : {M : Type 1} → statement M
 lumod-push-spec =

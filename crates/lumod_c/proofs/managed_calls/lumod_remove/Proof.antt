@@ -7,6 +7,10 @@ use Rattle.lumod_c.proofs.Returns.{returned}
 use Rattle.lumod_c.proofs.managed_calls.lumod_remove.Statement.{statement}
 use Rattle.lumod_c.proofs.managed_calls.lumod_remove.Tie as tie
 
+-- the start, found by its type from behind the call
+begun : tie.After-remove → tie.Start
+begun c = search
+
 remove-requires : tie.Need-remove-requires
 remove-requires c κs = search needs
 
@@ -35,8 +39,12 @@ same-length-5 : tie.Need-same-length-5
 same-length-5 c = search needs
 
 returns : tie.Need-returns
-returns c = let a = c .before .before .before .before .before .before .before .before .before .before .before .before .before .before .before .before .before .before .before .before .before .before .before .before .before .before .before .args in
-    returned (calls.remove (a .row) (a .column)) (instance (now (a .n)) (a .c) (now (a .l)) (now (a .u)) (now (a .y)) (now (a .z)) (now (a .w))) (c .before .before .before .before .before .before .before .before .before .before .before .before .before .before .before .remove .ensures) (c .remove-number .ensures) (c .before .before .before .moved-row .ensures, c .before .moved-column .ensures)
+unfolding begun
+returns c =
+    let m : tie.After-moved-row = search in
+    let r : tie.After-remove = search in
+    let a = begun r .args in
+    returned (calls.remove (a .row) (a .column)) (instance (now (a .n)) (a .c) (now (a .counter)) (now (a .l)) (now (a .u)) (now (a .y)) (now (a .z)) (now (a .w))) (r .remove .ensures) (c .remove-number .ensures) (m .moved-row .ensures, c .before .moved-column .ensures)
 
 pub lumod-remove-spec : {M : Type 1} → statement M
 lumod-remove-spec =
