@@ -10,6 +10,7 @@ pub struct Storage<'a> {
     capacity: usize,
     l: &'a mut [f64],
     u: &'a mut [f64],
+    counter: usize,
 }
 
 pub struct Workspaces<'a> {
@@ -25,7 +26,7 @@ impl<'a> Factors<'a> for Storage<'a> {
     type Workspace = Workspaces<'a>;
 
     fn adopt(n: usize, capacity: usize, l: &'a mut [f64], u: &'a mut [f64]) -> Self {
-        Self { n, capacity, l, u }
+        Self { n, capacity, l, u, counter: 0 }
     }
 
     fn workspace(y: &'a mut [f64], z: &'a mut [f64], w: &'a mut [f64]) -> Self::Workspace {
@@ -33,7 +34,7 @@ impl<'a> Factors<'a> for Storage<'a> {
     }
 
     fn push(&mut self, case: &Case, workspace: &mut Self::Workspace) -> bool {
-        let Self { n, capacity, l, u } = self;
+        let Self { n, capacity, l, u, counter } = self;
         let Workspaces { y, z, w } = workspace;
         let (row, column) = (&case.row_data, &case.column_data);
         0 == unsafe {
@@ -41,43 +42,44 @@ impl<'a> Factors<'a> for Storage<'a> {
                 n, *capacity, l.as_mut_ptr(), l.len(), u.as_mut_ptr(), u.len(),
                 y.as_mut_ptr(), y.len(), z.as_mut_ptr(), z.len(), w.as_mut_ptr(), w.len(),
                 row.as_ptr(), row.len(), column.as_ptr(), column.len(), case.diagonal,
+                counter, &mut 0,
             )
         }
     }
 
     fn replace_row(&mut self, case: &Case, workspace: &mut Self::Workspace) -> bool {
-        let Self { n, capacity, l, u } = self;
+        let Self { n, capacity, l, u, counter } = self;
         let Workspaces { y, z, w } = workspace;
         0 == unsafe {
             lumod_replace_row(
                 *n, *capacity, l.as_mut_ptr(), l.len(), u.as_mut_ptr(), u.len(),
                 y.as_mut_ptr(), y.len(), z.as_mut_ptr(), z.len(), w.as_mut_ptr(), w.len(),
-                case.row, case.row_data.as_ptr(), case.row_data.len(),
+                case.row, case.row_data.as_ptr(), case.row_data.len(), counter, &mut 0,
             )
         }
     }
 
     fn replace_column(&mut self, case: &Case, workspace: &mut Self::Workspace) -> bool {
-        let Self { n, capacity, l, u } = self;
+        let Self { n, capacity, l, u, counter } = self;
         let Workspaces { y, z, w } = workspace;
         0 == unsafe {
             lumod_replace_column(
                 *n, *capacity, l.as_mut_ptr(), l.len(), u.as_mut_ptr(), u.len(),
                 y.as_mut_ptr(), y.len(), z.as_mut_ptr(), z.len(), w.as_mut_ptr(), w.len(),
-                case.column, case.column_data.as_ptr(), case.column_data.len(),
+                case.column, case.column_data.as_ptr(), case.column_data.len(), counter, &mut 0,
             )
         }
     }
 
     fn remove(&mut self, case: &Case, workspace: &mut Self::Workspace) -> bool {
-        let Self { n, capacity, l, u } = self;
+        let Self { n, capacity, l, u, counter } = self;
         let Workspaces { y, z, w } = workspace;
         let (mut moved_row, mut moved_column) = (0, 0);
         let number = unsafe {
             lumod_remove(
                 n, *capacity, l.as_mut_ptr(), l.len(), u.as_mut_ptr(), u.len(),
                 y.as_mut_ptr(), y.len(), z.as_mut_ptr(), z.len(), w.as_mut_ptr(), w.len(),
-                case.row, case.column, &mut moved_row, &mut moved_column,
+                case.row, case.column, &mut moved_row, &mut moved_column, counter, &mut 0,
             )
         };
         let expected_row = case.removal.moved_row.map_or(usize::MAX, |row| row.0);
@@ -86,7 +88,7 @@ impl<'a> Factors<'a> for Storage<'a> {
     }
 
     fn solve(&mut self, rhs: &mut [f64]) -> bool {
-        let Self { n, capacity, l, u } = self;
+        let Self { n, capacity, l, u, .. } = self;
         0 == unsafe {
             lumod_solve(
                 *n, *capacity, l.as_mut_ptr(), l.len(), u.as_ptr(), u.len(),
@@ -96,7 +98,7 @@ impl<'a> Factors<'a> for Storage<'a> {
     }
 
     fn solve_transpose(&mut self, rhs: &mut [f64]) -> bool {
-        let Self { n, capacity, l, u } = self;
+        let Self { n, capacity, l, u, .. } = self;
         0 == unsafe {
             lumod_solve_transpose(
                 *n, *capacity, l.as_mut_ptr(), l.len(), u.as_ptr(), u.len(),

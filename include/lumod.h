@@ -44,8 +44,9 @@
  * the managed calls and the double nearest 2.22e-16 in the zero-based ones,
  * and T, which is E times the double nearest 0.0001.
  *
- * State. The functions keep nothing between calls. Calls on different buffers
- * may run at the same time.
+ * State. The functions keep nothing between calls. The host keeps n, c and the
+ * buffers, and for the managed calls a counter. Calls on different buffers and
+ * counters may run at the same time.
  */
 #ifndef LUMOD_H
 #define LUMOD_H
@@ -55,7 +56,8 @@
 
 /*
  * What the functions return. All but LUMOD_OK are refusals, and with a refusal
- * nothing is written anywhere, except that *index is written with 9 and 10.
+ * nothing is written anywhere, except that *index is written with 9 and 10,
+ * and *steps by every managed update.
  */
 #define LUMOD_OK 0u                     /* carried out */
 #define LUMOD_INVALID_DIMENSION 1u      /* n is more than the capacity */
@@ -96,6 +98,18 @@ extern "C" {
  * The workspaces y, z and w need no content. In the comments on lumod_push and
  * lumod_remove, n is what *n holds before the call. A scratch entry may hold
  * anything after the call. Every entry that is not listed is unchanged.
+ *
+ * The counter. An update eliminates the entries of a row or a column one after
+ * another. Each elimination is a pair step, also where its multiplier is zero.
+ * An entry that is passed over, as one within the tolerance E is, takes none.
+ * The counter adds up the pair steps of all updates. The host keeps it as it
+ * keeps n, sets it to 0 when it adopts storage, and hands it to each update.
+ * No other call takes it. *steps needs no content before the call.
+ *
+ *     LUMOD_OK   *steps is the exact number of the update's pair steps.
+ *                *counter grows by it, but stops at 999999. A larger figure
+ *                handed in counts as 999999, also where *steps is 0.
+ *     a refusal  *steps is 0. *counter is unchanged, whatever it holds.
  */
 
 /*
@@ -148,6 +162,7 @@ uint32_t lumod_from_storage(size_t n, size_t c, const double *l, size_t l_len,
  *
  * Leaves, with LUMOD_OK:
  *     *n       n + 1
+ *     *steps   At most n.
  *     l        L(i,j), i <= n and j <= n.
  *     u        U(i,j), i <= j <= n.
  *     y, z, w  The first n + 1 entries are scratch.
@@ -156,7 +171,7 @@ uint32_t lumod_push(size_t *n, size_t c, double *l, size_t l_len, double *u,
                     size_t u_len, double *y, size_t y_len, double *z,
                     size_t z_len, double *w, size_t w_len, const double *row,
                     size_t row_len, const double *column, size_t column_len,
-                    double diagonal);
+                    double diagonal, size_t *counter, size_t *steps);
 
 /*
  * lumod_replace_row replaces a row by values.
@@ -173,6 +188,7 @@ uint32_t lumod_push(size_t *n, size_t c, double *l, size_t l_len, double *u,
  *     LUMOD_INSUFFICIENT_WORKSPACE  y_len is less than n.
  *
  * Leaves, with LUMOD_OK:
+ *     *steps   At most 2 * (n - 1).
  *     l        L(i,j), i < n and j < n.
  *     u        U(i,j), i <= j < n.
  *     y, z, w  The first n entries are scratch.
@@ -181,7 +197,7 @@ uint32_t lumod_replace_row(size_t n, size_t c, double *l, size_t l_len,
                            double *u, size_t u_len, double *y, size_t y_len,
                            double *z, size_t z_len, double *w, size_t w_len,
                            size_t row, const double *values,
-                           size_t values_len);
+                           size_t values_len, size_t *counter, size_t *steps);
 
 /*
  * lumod_replace_column replaces a column by values.
@@ -197,13 +213,15 @@ uint32_t lumod_replace_row(size_t n, size_t c, double *l, size_t l_len,
  *     LUMOD_LENGTH_MISMATCH         values_len is not n.
  *     LUMOD_INSUFFICIENT_WORKSPACE  y_len is less than n.
  *
- * Leaves, with LUMOD_OK: what lumod_replace_row leaves.
+ * Leaves, with LUMOD_OK: what lumod_replace_row leaves, but *steps is at most
+ * 2 * (n - 1 - column).
  */
 uint32_t lumod_replace_column(size_t n, size_t c, double *l, size_t l_len,
                               double *u, size_t u_len, double *y, size_t y_len,
                               double *z, size_t z_len, double *w, size_t w_len,
                               size_t column, const double *values,
-                              size_t values_len);
+                              size_t values_len, size_t *counter,
+                              size_t *steps);
 
 /*
  * lumod_remove removes a row and a column. The last row takes the place of the
@@ -227,6 +245,7 @@ uint32_t lumod_replace_column(size_t n, size_t c, double *l, size_t l_len,
  *                    also the new dimension. SIZE_MAX where row was n - 1 and
  *                    nothing moved.
  *     *moved_column  The same for columns.
+ *     *steps         At most 3 * (n - 1).
  *     l              L(i,j), i < n - 1 and j < n - 1. L(n - 1,j) and
  *                    L(j,n - 1) with j < n are scratch.
  *     u              U(i,j), i <= j < n - 1. U(i,n - 1) with i < n is scratch.
@@ -235,7 +254,8 @@ uint32_t lumod_replace_column(size_t n, size_t c, double *l, size_t l_len,
 uint32_t lumod_remove(size_t *n, size_t c, double *l, size_t l_len, double *u,
                       size_t u_len, double *y, size_t y_len, double *z,
                       size_t z_len, double *w, size_t w_len, size_t row,
-                      size_t column, size_t *moved_row, size_t *moved_column);
+                      size_t column, size_t *moved_row, size_t *moved_column,
+                      size_t *counter, size_t *steps);
 
 /*
  * lumod_solve solves A * x = b in place. rhs is b before the call and x after

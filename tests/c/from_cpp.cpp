@@ -19,15 +19,15 @@ static bool zero_based() {
 static bool managed() {
     double l[6], u[3], y[2], z[2], w[2], rhs[2] = {8, 5};
     const double row[2] = {4, 1}, column[2] = {6, 1};
-    size_t n = 0, l_len, u_len, index, moved_row, moved_column;
+    size_t n = 0, l_len, u_len, index, moved_row, moved_column, counter = 0, steps;
     uint8_t ready;
     const uint32_t numbers[] = {
         lumod_storage_lengths(2, &l_len, &u_len),
         lumod_from_storage(n, 2, l, 6, u, 3),
-        lumod_push(&n, 2, l, 6, u, 3, y, 2, z, 2, w, 2, row, 0, column, 0, 2),
-        lumod_push(&n, 2, l, 6, u, 3, y, 2, z, 2, w, 2, row, 1, column, 1, 1),
+        lumod_push(&n, 2, l, 6, u, 3, y, 2, z, 2, w, 2, row, 0, column, 0, 2, &counter, &steps),
+        lumod_push(&n, 2, l, 6, u, 3, y, 2, z, 2, w, 2, row, 1, column, 1, 1, &counter, &steps),
         lumod_solve(n, 2, l, 6, u, 3, rhs, 2, &index),
-        lumod_replace_row(n, 2, l, 6, u, 3, y, 2, z, 2, w, 2, 0, row, 2),
+        lumod_replace_row(n, 2, l, 6, u, 3, y, 2, z, 2, w, 2, 0, row, 2, &counter, &steps),
         lumod_ready(n, 2, l, 6, u, 3, &ready),
     };
     bool right = l_len == 6 && u_len == 3 && rhs[0] == 1 && rhs[1] == 1;
@@ -38,11 +38,13 @@ static bool managed() {
     right = right && ready == 0;
     right = right && lumod_solve_transpose(n, 2, l, 6, u, 3, rhs, 2, &index) == LUMOD_SINGULAR;
     right = right && index == 1;
-    right = right &&
-            lumod_replace_column(n, 2, l, 6, u, 3, y, 2, z, 2, w, 2, 0, column, 2) == LUMOD_OK;
+    right = right && lumod_replace_column(n, 2, l, 6, u, 3, y, 2, z, 2, w, 2, 0, column, 2,
+                                          &counter, &steps) == LUMOD_OK;
     right = right && lumod_remove(&n, 2, l, 6, u, 3, y, 2, z, 2, w, 2, 1, 0, &moved_row,
-                                  &moved_column) == LUMOD_OK;
-    return right && n == 1 && moved_row == SIZE_MAX && moved_column == 1;
+                                  &moved_column, &counter, &steps) == LUMOD_OK;
+    right = right && n == 1 && moved_row == SIZE_MAX && moved_column == 1;
+    // Pair steps: pushes 0 and 1, row 1, column 1, remove 2.
+    return right && counter == 5 && steps == 2;
 }
 
 static int report(const char *family, bool right) {

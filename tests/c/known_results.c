@@ -19,18 +19,21 @@ static const struct update bench_updates[] = {
      .row_data = (const double[]){4},
      .column_data = (const double[]){6},
      .diagonal = 1,
+     .steps = 1,
      .before = {unit, (const double[]){2}},
      .after = {p_l, p_u}},
     {.what = "P, replace column 0 by (1,8)",
      .kind = REPLACE_COLUMN,
      .n = 2,
      .column_data = (const double[]){1, 8},
+     .steps = 1,
      .before = {p_l, p_u},
      .after = {(const double[]){0, 1, 1, -0.125}, (const double[]){8, 1, 5.875}}},
     {.what = "P, replace row 0 by (1,1)",
      .kind = REPLACE_ROW,
      .n = 2,
      .row_data = (const double[]){1, 1},
+     .steps = 1,
      .before = {p_l, p_u},
      .after = {(const double[]){0, 1, 1, -0.25}, (const double[]){4, 1, 0.75}}},
     {.what = "P, remove 1, 1",
@@ -38,6 +41,7 @@ static const struct update bench_updates[] = {
      .n = 2,
      .row = 1,
      .column = 1,
+     .steps = 1,
      .before = {p_l, p_u},
      .after = {unit, (const double[]){2}}},
 };
@@ -57,7 +61,7 @@ static void bench_table(const struct family *f) {
 
 /* A push on factors of dimension 1 with L = 1 and U = pivot. */
 static void push_on(const struct family *f, const char *what, double pivot, double row,
-                    double column, double d, const double *l, const double *u) {
+                    double column, double d, size_t steps, const double *l, const double *u) {
     f->check_update(&(struct update){.what = what,
                                      .kind = PUSH,
                                      .capacity = 3,
@@ -65,58 +69,63 @@ static void push_on(const struct family *f, const char *what, double pivot, doub
                                      .row_data = &row,
                                      .column_data = &column,
                                      .diagonal = d,
+                                     .steps = steps,
                                      .before = {unit, &pivot},
                                      .after = {l, u}});
 }
 
 /* Row 0 of factors of dimension 2 replaced. */
 static void replace_row(const struct family *f, const char *what, const double *before_l,
-                        const double *before_u, const double *row, const double *l,
-                        const double *u) {
+                        const double *before_u, const double *row, size_t steps,
+                        const double *l, const double *u) {
     f->check_update(&(struct update){.what = what,
                                      .kind = REPLACE_ROW,
                                      .capacity = 3,
                                      .n = 2,
                                      .row_data = row,
+                                     .steps = steps,
                                      .before = {before_l, before_u},
                                      .after = {l, u}});
 }
 
 static void pairs(const struct family *f) {
     begin_group("bench table: pair steps");
-    push_on(f, "pair 4, 2", 4, 2, 0, 1, (double[]){1, 0, -0.5, 1}, (double[]){4, 0, 1});
-    push_on(f, "pair 1, -2", 1, -2, 3, 4, (double[]){0, 1, 1, 0.5}, (double[]){-2, 4, 5});
-    push_on(f, "pair 3, -3", 3, -3, 1, 1, (double[]){1, 0, 1, 1}, (double[]){3, 1, 2});
+    push_on(f, "pair 4, 2", 4, 2, 0, 1, 1, (double[]){1, 0, -0.5, 1}, (double[]){4, 0, 1});
+    push_on(f, "pair 1, -2", 1, -2, 3, 4, 1, (double[]){0, 1, 1, 0.5}, (double[]){-2, 4, 5});
+    push_on(f, "pair 3, -3", 3, -3, 1, 1, 1, (double[]){1, 0, 1, 1}, (double[]){3, 1, 2});
     replace_row(f, "pair NaN, 0", (double[]){0, 1, NAN, 2}, (double[]){2, 3, 5},
-                (double[]){4, 8}, (double[]){1, 0, -0.5, 1}, (double[]){4, 8, -1});
+                (double[]){4, 8}, 2, (double[]){1, 0, -0.5, 1}, (double[]){4, 8, -1});
     end_group();
 }
 
 static void guards_at_nan(const struct family *f) {
     begin_group("a NaN passes Forward untouched, not Backward");
-    push_on(f, "pivot NaN", NAN, 4, 6, 1, unit, (double[]){NAN, 6, 1});
-    push_on(f, "row NaN", 2, NAN, 6, 1, unit, (double[]){2, 6, 1});
+    push_on(f, "pivot NaN", NAN, 4, 6, 1, 0, unit, (double[]){NAN, 6, 1});
+    push_on(f, "row NaN", 2, NAN, 6, 1, 0, unit, (double[]){2, 6, 1});
     replace_row(f, "L(0,0) NaN", (double[]){NAN, 1, 1, 0}, (double[]){2, 3, 5},
-                (double[]){7, 8}, (double[]){NAN, NAN, 1, 0}, (double[]){NAN, NAN, 8});
+                (double[]){7, 8}, 1, (double[]){NAN, NAN, 1, 0}, (double[]){NAN, NAN, 8});
     replace_row(f, "L(1,0) NaN", (double[]){1, 0, NAN, 1}, (double[]){2, 3, 5},
-                (double[]){7, 8}, (double[]){NAN, NAN, 1, 0}, (double[]){NAN, NAN, 8});
+                (double[]){7, 8}, 1, (double[]){NAN, NAN, 1, 0}, (double[]){NAN, NAN, 8});
     end_group();
 }
 
+/* A step whose multiplier is zero is made too. */
 static void forward_tolerances(const struct family *f) {
     double e = f->e, above_e = nextafter(e, 1);
     double t = e * 0.0001, above_t = nextafter(t, 1);
     begin_group("Forward at E and T");
-    push_on(f, "row at E", 1, e, 0, 1, unit, (double[]){1, 0, 1});
-    push_on(f, "row above E", 1, above_e, 0, 1, (double[]){1, 0, -above_e, 1},
+    push_on(f, "row at E", 1, e, 0, 1, 0, unit, (double[]){1, 0, 1});
+    push_on(f, "row above E", 1, above_e, 0, 1, 1, (double[]){1, 0, -above_e, 1},
             (double[]){1, 0, 1});
-    push_on(f, "pivot at T", t, t / 2, 3, 1, unit, (double[]){0, 3, 1});
-    push_on(f, "pivot above T", above_t, above_t / 2, 3, 1, (double[]){1, 0, -0.5, 1},
+    push_on(f, "pivot at T", t, t / 2, 3, 1, 1, unit, (double[]){0, 3, 1});
+    push_on(f, "pivot above T", above_t, above_t / 2, 3, 1, 1, (double[]){1, 0, -0.5, 1},
             (double[]){above_t, 3, -0.5});
-    push_on(f, "pivot 0, row at T", 0, t, 3, 1, unit, (double[]){0, 3, 1});
-    push_on(f, "pivot T / 2, row at T", t / 2, t, 3, 1, unit, (double[]){0, 3, 1});
-    push_on(f, "pivot 0, row above T", 0, above_t, 3, 1, (double[]){0, 1, 1, 0},
+    push_on(f, "pivot 0, row 2^-80", 0, 0x1p-80, 3, 1, 1, unit, (double[]){0, 3, 1});
+    push_on(f, "pivot 0, row at T", 0, t, 3, 1, 1, unit, (double[]){0, 3, 1});
+    push_on(f, "pivot T / 2, row at T", t / 2, t, 3, 1, 1, unit, (double[]){0, 3, 1});
+    push_on(f, "pivot 0, row above T", 0, above_t, 3, 1, 1, (double[]){0, 1, 1, 0},
             (double[]){above_t, 1, 3});
+    push_on(f, "pivot 0, row 1", 0, 1, 3, 1, 1, (double[]){0, 1, 1, 0}, (double[]){1, 1, 3});
     end_group();
 }
 
@@ -124,22 +133,23 @@ static void backward_tolerances(const struct family *f) {
     double e = f->e, above_e = nextafter(e, 1);
     const double *u = (double[]){2, 0, 5}, *row = (double[]){0, 8};
     begin_group("Backward at E: the end that is trimmed, the row");
-    replace_row(f, "end at E", (double[]){1, 0, e, 1}, u, row, unit, (double[]){0, 8, 5});
-    replace_row(f, "end above E", (double[]){1, 0, above_e, 1}, u, row, (double[]){0, 1, 1, 0},
-                (double[]){-2 * above_e, 5, 8});
-    replace_row(f, "row at E", (double[]){e, 0, 1, 1}, u, row, (double[]){0, 0, 1, 0},
+    replace_row(f, "end at E", (double[]){1, 0, e, 1}, u, row, 0, unit, (double[]){0, 8, 5});
+    replace_row(f, "end above E", (double[]){1, 0, above_e, 1}, u, row, 1,
+                (double[]){0, 1, 1, 0}, (double[]){-2 * above_e, 5, 8});
+    replace_row(f, "row at E", (double[]){e, 0, 1, 1}, u, row, 0, (double[]){0, 0, 1, 0},
                 (double[]){2, 0, 8});
-    replace_row(f, "row above E", (double[]){above_e, 0, 1, 1}, u, row,
+    replace_row(f, "row above E", (double[]){above_e, 0, 1, 1}, u, row, 1,
                 (double[]){0, -above_e, 1, 0}, (double[]){2, -5 * above_e, 8});
     end_group();
 }
 
 static void rounding(const struct family *f) {
     begin_group("two roundings, zeros and infinities");
-    push_on(f, "m * first is rounded", 3, 1, 3, 1, (double[]){1, 0, -1.0 / 3, 1},
+    push_on(f, "m * first is rounded", 3, 1, 3, 1, 1, (double[]){1, 0, -1.0 / 3, 1},
             (double[]){3, 3, 0});
-    push_on(f, "pivot -0, row -0, d -0", -0.0, -0.0, 2, -0.0, unit, (double[]){-0.0, 2, -0.0});
-    push_on(f, "m is -0 and not applied", 2, INFINITY, 6, INFINITY, (double[]){0, 1, 1, 0},
+    push_on(f, "pivot -0, row -0, d -0", -0.0, -0.0, 2, -0.0, 0, unit,
+            (double[]){-0.0, 2, -0.0});
+    push_on(f, "m is -0 and not applied", 2, INFINITY, 6, INFINITY, 1, (double[]){0, 1, 1, 0},
             (double[]){INFINITY, INFINITY, 6});
     end_group();
 }
@@ -154,29 +164,34 @@ static const struct update updates_of_three[] = {
      .kind = REPLACE_ROW,
      .row = 1,
      .row_data = m_data,
+     .steps = 4,
      .before = {m_l, m_u},
      .after = {(const double[]){3, 0, 2, 3, 1, 2, 0, 0.5, -1},
                (const double[]){2, -2, 1, -4, 4, 4}}},
     {.what = "replace column 0",
      .kind = REPLACE_COLUMN,
      .column_data = m_data,
+     .steps = 3,
      .before = {m_l, m_u},
      .after = {(const double[]){0, 2, 0, 0.75, -1.5, -0.5, 3.75, -1.5, 1.5},
                (const double[]){-4, -2, 1, 2, 2, 3}}},
     {.what = "remove 0, 0",
      .kind = REMOVE,
+     .steps = 1,
      .before = {m_l, m_u},
      .after = {(const double[]){-1, -1, 0.5, 2.5}, (const double[]){2, 2, -3}}},
     {.what = "remove 2, 1",
      .kind = REMOVE,
      .row = 2,
      .column = 1,
+     .steps = 1,
      .before = {m_l, m_u},
      .after = {(const double[]){0, 2, 1.5, -2}, (const double[]){2, 1, 2}}},
     {.what = "remove 1, 2, where L's column 1 ends in a zero, which Backward does not trim",
      .kind = REMOVE,
      .row = 1,
      .column = 2,
+     .steps = 1,
      .before = {(const double[]){1, 0, 0, 0, 1, 0, 0, 0, 1},
                 (const double[]){2, 3, 5, 7, 11, 13}},
      .after = {unit, (const double[]){2, 3, 0}}},
@@ -184,6 +199,7 @@ static const struct update updates_of_three[] = {
      .kind = REPLACE_ROW,
      .row = 1,
      .row_data = (const double[]){4, 4, -4},
+     .steps = 2,
      .before = {(const double[]){-2, -1, 0, 4, -2, -2, -1, 0, -1},
                 (const double[]){-2, 2, 4, -1, -4, 1}},
      .after = {(const double[]){0, 1, 0, -4, 0.5, 1, -1, 0, -1},
@@ -191,6 +207,7 @@ static const struct update updates_of_three[] = {
     {.what = "replace row 0, where Backward skips row 1 and dense(1) becomes +0",
      .kind = REPLACE_ROW,
      .row_data = (const double[]){0, 0, 7},
+     .steps = 1,
      .before = {(const double[]){1, 2, 3, 0, 4, 5, 1, 6, 7},
                 (const double[]){1, 2, 3, 4, 5, 6}},
      .after = {(const double[]){0, -4, -4, 0, 4, 5, 1, 0, 0},

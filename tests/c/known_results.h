@@ -17,13 +17,15 @@ struct factors {
 };
 
 /* n is the dimension before the update. A push takes row_data, column_data and
- * diagonal, a replacement row_data or column_data. */
+ * diagonal, a replacement row_data or column_data. The update makes so many pair
+ * steps, which the managed calls report. */
 struct update {
     const char *what;
     enum update_kind kind;
     size_t capacity, n, row, column;
     const double *row_data, *column_data;
     double diagonal;
+    size_t steps;
     struct factors before, after;
 };
 

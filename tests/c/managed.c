@@ -1,8 +1,8 @@
 /*
  * Tests of the managed calls from C: the bench table, known results, what a
  * removal moves, any diagonal, empty factors, adopted storage, every refusal,
- * and a matrix that is kept beside its factors. The last line counts the
- * checks. The exit status is 1 where one failed.
+ * pair steps and their counter, and a matrix that is kept beside its factors.
+ * The last line counts the checks. The exit status is 1 where one failed.
  */
 #include <math.h>
 #include <stdio.h>
@@ -10,6 +10,7 @@
 #include <string.h>
 
 #include "managed_calls.h"
+#include "managed_counter.h"
 #include "managed_kept_matrix.h"
 #include "managed_refusals.h"
 
@@ -52,20 +53,8 @@ static void lengths(void) {
 static void check_known_update(const struct update *u) {
     struct memory m;
     for (size_t k = 0; k < COUNT(more_doubles); k++) {
-        struct managed c = make_managed(u->kind, u->n, u->capacity);
-        c.row = u->row;
-        c.column = u->column;
-        c.diagonal = u->diagonal;
-        prepare_managed(&m, &c, more_doubles[k]);
-        put_l(&m, u->capacity, u->n, u->before.l);
-        put_u(&m, u->capacity, u->n, u->before.u);
-        if (u->row_data) {
-            put(&m, ROW, u->n, u->row_data);
-        }
-        if (u->column_data) {
-            put(&m, COLUMN, u->n, u->column_data);
-        }
-        check_managed_update(u->what, &c, &m, u->after.l, u->after.u);
+        struct managed c = prepare_update(&m, u, more_doubles[k]);
+        check_managed_update(u->what, &c, &m, u->steps, u->after.l, u->after.u);
     }
 }
 
@@ -115,12 +104,12 @@ static void make_and_solve_p(size_t capacity, size_t more) {
     struct managed c = make_managed(PUSH, 0, capacity);
     prepare_managed(&m, &c, more);
     c.diagonal = 2;
-    check_managed_update("empty, push d 2", &c, &m, (double[]){1}, (double[]){2});
+    check_managed_update("empty, push d 2", &c, &m, 0, (double[]){1}, (double[]){2});
     prepare_next(&m, &c, more);
     put(&m, ROW, 1, (double[]){4});
     put(&m, COLUMN, 1, (double[]){6});
     c.diagonal = 1;
-    check_managed_update("push row (4), column (6), d 1", &c, &m, p_l, p_u);
+    check_managed_update("push row (4), column (6), d 1", &c, &m, 1, p_l, p_u);
     solve_p(c, &m, more);
 }
 
@@ -129,7 +118,7 @@ static void push_negative_zero(size_t capacity, size_t more) {
     struct managed c = make_managed(PUSH, 0, capacity), after;
     prepare_managed(&m, &c, more);
     c.diagonal = -0.0;
-    check_managed_update("empty, push d -0", &c, &m, (double[]){1}, (double[]){-0.0});
+    check_managed_update("empty, push d -0", &c, &m, 0, (double[]){1}, (double[]){-0.0});
     c.function = SOLVE;
     prepare_next(&m, &c, more);
     put(&m, RHS, 1, (double[]){5});
@@ -171,7 +160,7 @@ static void moves(void) {
             c.column = k % n;
             prepare_managed(&m, &c, 1);
             put_identities(&m, 5, n);
-            check_managed_update("remove", &c, &m, NULL, NULL);
+            check_managed_update("remove", &c, &m, ANY_STEPS, NULL, NULL);
         }
     }
     end_group();
@@ -324,12 +313,16 @@ static double *block(size_t length) {
 static void bare_blocks(void) {
     double *l = block(12), *u = block(6), *y = block(2), *z = block(2), *w = block(2);
     double row[] = {4, 1}, column[] = {6, 8}, rhs[] = {8, 5};
-    size_t n = 0, index, moved_row, moved_column;
+    size_t n = 0, index, moved_row, moved_column, counter = 0, steps;
     uint8_t ready;
     begin_group("heap blocks that were never filled");
-    check_number("push", lumod_push(&n, 3, l, 12, u, 6, y, 1, z, 1, w, 1, row, 0, column, 0, 2),
+    check_number("push",
+                 lumod_push(&n, 3, l, 12, u, 6, y, 1, z, 1, w, 1, row, 0, column, 0, 2,
+                            &counter, &steps),
                  LUMOD_OK);
-    check_number("push", lumod_push(&n, 3, l, 12, u, 6, y, 2, z, 2, w, 2, row, 1, column, 1, 1),
+    check_number("push",
+                 lumod_push(&n, 3, l, 12, u, 6, y, 2, z, 2, w, 2, row, 1, column, 1, 1,
+                            &counter, &steps),
                  LUMOD_OK);
     check_number("solve", lumod_solve(n, 3, l, 12, u, 6, rhs, 2, &index), LUMOD_OK);
     check_number("solution is (1,1)", rhs[0] == 1 && rhs[1] == 1, 1);
@@ -338,18 +331,21 @@ static void bare_blocks(void) {
                  LUMOD_OK);
     check_number("solution is (1,1)", rhs[0] == 1 && rhs[1] == 1, 1);
     check_number("replace row",
-                 lumod_replace_row(n, 3, l, 12, u, 6, y, 2, z, 2, w, 2, 0, (double[]){1, 1}, 2),
+                 lumod_replace_row(n, 3, l, 12, u, 6, y, 2, z, 2, w, 2, 0, (double[]){1, 1}, 2,
+                                   &counter, &steps),
                  LUMOD_OK);
     check_number("U is 4,1,0.75", u[0] == 4 && u[1] == 1 && u[3] == 0.75, 1);
     check_number("replace column",
-                 lumod_replace_column(n, 3, l, 12, u, 6, y, 2, z, 2, w, 2, 1, column, 2),
+                 lumod_replace_column(n, 3, l, 12, u, 6, y, 2, z, 2, w, 2, 1, column, 2,
+                                      &counter, &steps),
                  LUMOD_OK);
-    check_number(
-        "remove",
-        lumod_remove(&n, 3, l, 12, u, 6, y, 2, z, 2, w, 2, 0, 0, &moved_row, &moved_column),
-        LUMOD_OK);
+    check_number("remove",
+                 lumod_remove(&n, 3, l, 12, u, 6, y, 2, z, 2, w, 2, 0, 0, &moved_row,
+                              &moved_column, &counter, &steps),
+                 LUMOD_OK);
     check_number("ready", lumod_ready(n, 3, l, 12, u, 6, &ready), LUMOD_OK);
     check_number("it is ready, and L * 8 is U", ready == 1 && l[0] * 8 == u[0], 1);
+    check_number("*counter: pushes 0 + 1, row 1, column 0, remove 1", counter, 3);
     free(l), free(u), free(y), free(z), free(w);
     end_group();
 }
@@ -368,6 +364,7 @@ int main(void) {
     adoption();
     bare_blocks();
     check_kept_matrix();
+    check_counter();
     check_managed_refusals();
     return end_checks();
 }

@@ -4,7 +4,7 @@
 
 struct managed make_managed(int function, size_t n, size_t c) {
     struct managed call = {.function = function, .n = n, .c = c};
-    call.index = call.moved_row = call.moved_column = UNREPORTED;
+    call.index = call.moved_row = call.moved_column = call.steps = UNREPORTED;
     call.ready = UNREPORTED;
     return call;
 }
@@ -23,6 +23,32 @@ void prepare_next(struct memory *m, const struct managed *c, size_t more) {
     copy_active(m, &before, c->c, c->n);
 }
 
+struct managed call_of(const struct update *u) {
+    struct managed c = make_managed(u->kind, u->n, u->capacity);
+    c.row = u->row;
+    c.column = u->column;
+    c.diagonal = u->diagonal;
+    return c;
+}
+
+void put_data(struct memory *m, const struct update *u) {
+    if (u->row_data) {
+        put(m, ROW, u->n, u->row_data);
+    }
+    if (u->column_data) {
+        put(m, COLUMN, u->n, u->column_data);
+    }
+}
+
+struct managed prepare_update(struct memory *m, const struct update *u, size_t more) {
+    struct managed c = call_of(u);
+    prepare_managed(m, &c, more);
+    put_l(m, u->capacity, u->n, u->before.l);
+    put_u(m, u->capacity, u->n, u->before.u);
+    put_data(m, u);
+    return c;
+}
+
 /* A buffer as two arguments. */
 #define LEND(b) buffer_at(m, b, 0), m->length[b]
 
@@ -30,16 +56,16 @@ static uint32_t call_managed(struct managed *c, struct memory *m) {
     switch (c->function) {
     case PUSH:
         return lumod_push(&c->n, c->c, LEND(L), LEND(U), LEND(Y), LEND(Z), LEND(W), LEND(ROW),
-                          LEND(COLUMN), c->diagonal);
+                          LEND(COLUMN), c->diagonal, &c->counter, &c->steps);
     case REPLACE_COLUMN:
         return lumod_replace_column(c->n, c->c, LEND(L), LEND(U), LEND(Y), LEND(Z), LEND(W),
-                                    c->column, LEND(COLUMN));
+                                    c->column, LEND(COLUMN), &c->counter, &c->steps);
     case REPLACE_ROW:
         return lumod_replace_row(c->n, c->c, LEND(L), LEND(U), LEND(Y), LEND(Z), LEND(W),
-                                 c->row, LEND(ROW));
+                                 c->row, LEND(ROW), &c->counter, &c->steps);
     case REMOVE:
         return lumod_remove(&c->n, c->c, LEND(L), LEND(U), LEND(Y), LEND(Z), LEND(W), c->row,
-                            c->column, &c->moved_row, &c->moved_column);
+                            c->column, &c->moved_row, &c->moved_column, &c->counter, &c->steps);
     case SOLVE:
         return lumod_solve(c->n, c->c, LEND(L), LEND(U), LEND(RHS), &c->index);
     case SOLVE_TRANSPOSE:
@@ -51,10 +77,15 @@ static uint32_t call_managed(struct managed *c, struct memory *m) {
     }
 }
 
-/* Makes the call, and compares what it returns and reports. */
-static void check_numbers(const char *what, struct managed *c, struct memory *m,
+static void check_named(const char *what, const char *name, uint64_t found, uint64_t expected) {
+    char label[200];
+    snprintf(label, sizeof label, "%s: %s", what, name);
+    check_number(label, found, expected);
+}
+
+/* What a call returned and reported. */
+static void check_numbers(const char *what, uint32_t returned, const struct managed *c,
                           uint32_t number, const struct managed *after) {
-    uint32_t returned = call_managed(c, m);
     const struct {
         const char *name;
         uint64_t found, expected;
@@ -64,37 +95,74 @@ static void check_numbers(const char *what, struct managed *c, struct memory *m,
         {"*index", c->index, after->index},
         {"*moved_row", c->moved_row, after->moved_row},
         {"*moved_column", c->moved_column, after->moved_column},
+        {"*counter", c->counter, after->counter},
+        {"*steps", c->steps, after->steps},
         {"*ready", c->ready, after->ready},
     };
     for (size_t k = 0; k < COUNT(numbers); k++) {
-        char label[200];
-        snprintf(label, sizeof label, "%s: %s", what, numbers[k].name);
-        check_number(label, numbers[k].found, numbers[k].expected);
+        check_named(what, numbers[k].name, numbers[k].found, numbers[k].expected);
     }
 }
 
 void check_kept(const char *what, struct managed c, struct memory *m, uint32_t number,
                 struct managed after) {
+    static const size_t counters[] = {0, 7, MOST_COUNTED, MOST_COUNTED + 1, SIZE_MAX};
     struct memory before = *m;
-    check_numbers(what, &c, m, number, &after);
+    int is_update = c.function <= REMOVE;
+    if (is_update) {
+        after.steps = 0;
+    }
+    for (size_t k = 0; k < (is_update ? COUNT(counters) : 1); k++) {
+        struct managed call = c;
+        call.counter = after.counter = counters[k];
+        uint32_t returned = call_managed(&call, m);
+        check_numbers(what, returned, &call, number, &after);
+    }
     check_memory(what, m, &before);
 }
 
-static struct managed after_update(struct managed c) {
+/* The limit of an update's pair steps. */
+static size_t step_limit(const struct managed *c) {
+    switch (c->function) {
+    case PUSH:
+        return c->n;
+    case REPLACE_COLUMN:
+        return 2 * (c->n - 1 - c->column);
+    case REPLACE_ROW:
+        return 2 * (c->n - 1);
+    default:
+        return 3 * (c->n - 1);
+    }
+}
+
+/* The counter after so many more pair steps. */
+static size_t add_steps(size_t counter, size_t steps) {
+    if (counter > MOST_COUNTED || steps > MOST_COUNTED - counter) {
+        return MOST_COUNTED;
+    }
+    return counter + steps;
+}
+
+static struct managed after_update(struct managed c, size_t steps) {
     if (c.function == REMOVE) {
         c.moved_row = c.row == c.n - 1 ? SIZE_MAX : c.n - 1;
         c.moved_column = c.column == c.n - 1 ? SIZE_MAX : c.n - 1;
     }
     c.n += (c.function == PUSH) - (c.function == REMOVE);
+    c.counter = add_steps(c.counter, steps);
+    c.steps = steps;
     return c;
 }
 
-void check_managed_update(const char *what, struct managed *c, struct memory *m,
+void check_managed_update(const char *what, struct managed *c, struct memory *m, size_t steps,
                           const double *l, const double *u) {
     struct memory expected = *m;
-    struct managed after = after_update(*c);
-    size_t larger = c->n > after.n ? c->n : after.n;
-    check_numbers(what, c, m, LUMOD_OK, &after);
+    struct managed before = *c;
+    uint32_t returned = call_managed(c, m);
+    struct managed after = after_update(before, steps == ANY_STEPS ? c->steps : steps);
+    size_t larger = before.n > after.n ? before.n : after.n;
+    check_numbers(what, returned, c, LUMOD_OK, &after);
+    check_named(what, "*steps is within its limit", c->steps <= step_limit(&before), 1);
     if (l && u) {
         put_l(&expected, c->c, after.n, l);
         put_u(&expected, c->c, after.n, u);
@@ -113,7 +181,8 @@ void check_managed_solve(const char *what, struct managed c, struct memory *m,
                          const double *solution) {
     struct memory expected = *m;
     struct managed after = c;
-    check_numbers(what, &c, m, LUMOD_OK, &after);
+    uint32_t returned = call_managed(&c, m);
+    check_numbers(what, returned, &c, LUMOD_OK, &after);
     put(&expected, RHS, c.n, solution ? solution : buffer_at(m, RHS, 0));
     allow_scratch(&expected, m, L, c.c * c.c, c.n);
     check_memory(what, m, &expected);

@@ -6,11 +6,13 @@
 
 enum { LARGEST = 13, UPDATES = 200 };
 
-/* A matrix, the memory with its factors, and the numbers of the next call. */
+/* A matrix, the memory with its factors, the numbers of the next call, and the
+ * pair steps of all calls. */
 struct kept {
     double a[LARGEST][LARGEST];
     struct memory m;
     struct managed c;
+    size_t steps;
 };
 
 /* The same sequence in every run, from -1 to 1. */
@@ -29,47 +31,49 @@ static void check_close(const char *what, double found, double expected, double 
     check_number(what, fabs(found - expected) <= 1e-13 * size, 1);
 }
 
-static void prepare_update(struct kept *k, int function) {
+static void prepare_call(struct kept *k, int function) {
+    size_t counter = k->c.counter;
     k->c = make_managed(function, k->c.n, k->c.c);
+    k->c.counter = counter;
     prepare_next(&k->m, &k->c, 2);
 }
 
 static void push(struct kept *k) {
     size_t n = k->c.n;
-    prepare_update(k, PUSH);
+    prepare_call(k, PUSH);
     for (size_t j = 0; j < n; j++) {
         k->a[n][j] = *buffer_at(&k->m, ROW, j) = random_entry();
         k->a[j][n] = *buffer_at(&k->m, COLUMN, j) = random_entry();
     }
     k->a[n][n] = k->c.diagonal = random_entry();
-    check_managed_update("push", &k->c, &k->m, NULL, NULL);
+    check_managed_update("push", &k->c, &k->m, ANY_STEPS, NULL, NULL);
 }
 
 static void replace_row(struct kept *k) {
-    prepare_update(k, REPLACE_ROW);
+    prepare_call(k, REPLACE_ROW);
     k->c.row = random_below(k->c.n);
     for (size_t j = 0; j < k->c.n; j++) {
         k->a[k->c.row][j] = *buffer_at(&k->m, ROW, j) = random_entry();
     }
-    check_managed_update("replace row", &k->c, &k->m, NULL, NULL);
+    check_managed_update("replace row", &k->c, &k->m, ANY_STEPS, NULL, NULL);
 }
 
 static void replace_column(struct kept *k) {
-    prepare_update(k, REPLACE_COLUMN);
+    prepare_call(k, REPLACE_COLUMN);
     k->c.column = random_below(k->c.n);
     for (size_t i = 0; i < k->c.n; i++) {
         k->a[i][k->c.column] = *buffer_at(&k->m, COLUMN, i) = random_entry();
     }
-    check_managed_update("replace column", &k->c, &k->m, NULL, NULL);
+    check_managed_update("replace column", &k->c, &k->m, ANY_STEPS, NULL, NULL);
 }
 
 /* The matrix follows what the call reports as moved. */
 static void remove_both(struct kept *k) {
     size_t n = k->c.n;
-    prepare_update(k, REMOVE);
+    prepare_call(k, REMOVE);
     k->c.row = random_below(n);
     k->c.column = random_below(n);
-    check_managed_update("remove", &k->c, &k->m, NULL, NULL);
+    check_managed_update("remove", &k->c, &k->m, ANY_STEPS, NULL, NULL);
     for (size_t j = 0; k->c.moved_row < n && j < n; j++) {
         k->a[k->c.row][j] = k->a[k->c.moved_row][j];
     }
@@ -89,6 +93,8 @@ static void update(struct kept *k) {
     } else {
         replace_column(k);
     }
+    k->steps += k->c.steps;
+    check_number("*counter is the sum of all *steps", k->c.counter, k->steps);
 }
 
 /* L * A = U. */
@@ -133,6 +139,7 @@ void check_kept_matrix(void) {
     begin_group("a matrix kept beside its factors");
     for (size_t capacity = 5; capacity <= LARGEST; capacity += 4) {
         k.c = make_managed(PUSH, 0, capacity);
+        k.steps = 0;
         for (int count = 0; count < UPDATES; count++) {
             update(&k);
             check_factors(&k);

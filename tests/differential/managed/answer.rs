@@ -1,6 +1,7 @@
 //! What a managed call answers: a number, and what it writes to its other outputs.
 
 use super::call::{Call, Function, Instance};
+use super::counter;
 use super::refusals::{bad_diagonal, lengths, number};
 use crate::random::Random;
 
@@ -15,6 +16,8 @@ pub struct Outputs {
     pub moved_row: usize,
     pub moved_column: usize,
     pub index: usize,
+    pub counter: usize,
+    pub steps: usize,
     pub ready: u8,
     pub beside: [u8; 7],
 }
@@ -23,7 +26,7 @@ impl Outputs {
     /// Anything at all, to be written over or left alone.
     pub fn any(random: &mut Random) -> Self {
         let mut size = || random.bits() as usize;
-        let [n, l, u, moved_row, moved_column, index] = [(); 6].map(|()| size());
+        let [n, l, u, moved_row, moved_column, index, counter, steps] = [(); 8].map(|()| size());
         let [ready, beside @ ..] = random.bits().to_ne_bytes();
         Self {
             n,
@@ -32,12 +35,20 @@ impl Outputs {
             moved_row,
             moved_column,
             index,
+            counter,
+            steps,
             ready,
             beside,
         }
     }
 
-    /// What an accepted call writes.
+    /// The same with an instance's dimension and counter.
+    pub fn of(self, instance: &Instance) -> Self {
+        let Instance { n, counter, .. } = *instance;
+        Self { n, counter, ..self }
+    }
+
+    /// What an accepted call writes, without the counter and the pair steps.
     fn accept(&mut self, call: &Call, before: &Instance) {
         let n = before.n;
         let moved = |index| if index + 1 == n { usize::MAX } else { n - 1 };
@@ -64,16 +75,27 @@ pub struct Answer {
 }
 
 impl Answer {
-    /// Document 01's answer to a call whose outputs held `outputs`.
-    pub fn of_document(call: &Call, before: &Instance, mut outputs: Outputs) -> Self {
+    /// Document 01's answer to a call whose outputs held `outputs`. The counter and
+    /// the pair steps are left as they were, as they are by the Rust.
+    pub fn of_document(call: &Call, before: &Instance, outputs: Outputs) -> Self {
         let number = number(call, before);
-        outputs.n = before.n;
+        let mut outputs = outputs.of(before);
         match (number, bad_diagonal(before)) {
             (0, _) => outputs.accept(call, before),
             (9 | 10, Some((index, _))) => outputs.index = index,
             _ => {}
         }
         Self { number, outputs }
+    }
+
+    /// The same with the counter and the number that an update leaves after so many
+    /// pair steps.
+    pub fn counted(mut self, before: &Instance, steps: usize) -> Self {
+        if self.number == 0 {
+            self.outputs.counter = counter::after(before.counter, steps);
+        }
+        self.outputs.steps = steps;
+        self
     }
 
     /// The first of its parts that is not as expected.
@@ -88,7 +110,7 @@ impl Answer {
             .map(|((name, found), (_, expected))| format!("{name} {found}, expected {expected}"))
     }
 
-    fn parts(&self) -> [(&'static str, String); 9] {
+    fn parts(&self) -> [(&'static str, String); 11] {
         let outputs = &self.outputs;
         [
             ("number", self.number.to_string()),
@@ -98,6 +120,8 @@ impl Answer {
             ("moved_row", outputs.moved_row.to_string()),
             ("moved_column", outputs.moved_column.to_string()),
             ("index", outputs.index.to_string()),
+            ("counter", outputs.counter.to_string()),
+            ("steps", outputs.steps.to_string()),
             ("ready", outputs.ready.to_string()),
             ("bytes beside ready", format!("{:?}", outputs.beside)),
         ]

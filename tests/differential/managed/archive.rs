@@ -6,20 +6,20 @@ use super::declarations::*;
 
 /// Makes the call in the archive.
 pub fn call_archive(call: &Call, instance: &mut Instance, outputs: Outputs) -> Answer {
-    let n = instance.n;
-    let mut outputs = Outputs { n, ..outputs };
+    let mut outputs = outputs.of(instance);
     let number = if call.function.is_update() {
         call_update(call, instance, &mut outputs)
     } else {
         call_other(call, instance, &mut outputs)
     };
-    instance.n = outputs.n;
+    (instance.n, instance.counter) = (outputs.n, outputs.counter);
     Answer { number, outputs }
 }
 
 #[rustfmt::skip]
 fn call_update(call: &Call, instance: &mut Instance, outputs: &mut Outputs) -> u32 {
-    let Instance { n, c, ref mut buffers } = *instance;
+    let Instance { n, c, ref mut buffers, .. } = *instance;
+    let Outputs { counter, steps, .. } = outputs;
     let [l, u, y, z, w, row, column, _] = buffers.slices_mut();
     let (l, l_len, u, u_len) = (l.as_mut_ptr(), l.len(), u.as_mut_ptr(), u.len());
     let (y, y_len, z, z_len) = (y.as_mut_ptr(), y.len(), z.as_mut_ptr(), z.len());
@@ -30,18 +30,20 @@ fn call_update(call: &Call, instance: &mut Instance, outputs: &mut Outputs) -> u
             Function::Push => lumod_push(
                 &mut outputs.n, c, l, l_len, u, u_len, y, y_len, z, z_len, w, w_len,
                 row.as_ptr(), row.len(), column.as_ptr(), column.len(), call.diagonal,
+                counter, steps,
             ),
             Function::ReplaceRow => lumod_replace_row(
                 n, c, l, l_len, u, u_len, y, y_len, z, z_len, w, w_len,
-                call.row, row.as_ptr(), row.len(),
+                call.row, row.as_ptr(), row.len(), counter, steps,
             ),
             Function::ReplaceColumn => lumod_replace_column(
                 n, c, l, l_len, u, u_len, y, y_len, z, z_len, w, w_len,
-                call.column, column.as_ptr(), column.len(),
+                call.column, column.as_ptr(), column.len(), counter, steps,
             ),
             _ => lumod_remove(
                 &mut outputs.n, c, l, l_len, u, u_len, y, y_len, z, z_len, w, w_len,
                 call.row, call.column, &mut outputs.moved_row, &mut outputs.moved_column,
+                counter, steps,
             ),
         }
     }
@@ -49,7 +51,7 @@ fn call_update(call: &Call, instance: &mut Instance, outputs: &mut Outputs) -> u
 
 #[rustfmt::skip]
 fn call_other(call: &Call, instance: &mut Instance, outputs: &mut Outputs) -> u32 {
-    let Instance { n, c, ref mut buffers } = *instance;
+    let Instance { n, c, ref mut buffers, .. } = *instance;
     let [l, u, .., rhs] = buffers.slices_mut();
     let (l, l_len, u, u_len) = (l.as_mut_ptr(), l.len(), u.as_ptr(), u.len());
     let (rhs, rhs_len) = (rhs.as_mut_ptr(), rhs.len());

@@ -2,6 +2,7 @@
 
 use std::fmt;
 
+use super::counter;
 use crate::buffers::{surplus, Buffer, Buffers, Name, VECTORS};
 use crate::data::Profile;
 use crate::random::Random;
@@ -88,13 +89,14 @@ pub struct Call {
     pub diagonal: f64,
 }
 
-/// A dimension and a capacity, with all that is lent to their calls. The values
-/// of replace_row are in the buffer for a row, those of replace_column in the
-/// one for a column.
+/// A dimension, a capacity and a counter, with all that is lent to their calls.
+/// The values of replace_row are in the buffer for a row, those of replace_column
+/// in the one for a column. The Rust's instance has the driver's own counter.
 #[derive(Clone)]
 pub struct Instance {
     pub n: usize,
     pub c: usize,
+    pub counter: usize,
     pub buffers: Buffers,
 }
 
@@ -104,7 +106,12 @@ impl Instance {
         let l = c * (c + 1) + surplus(random);
         let u = c * (c + 1) / 2 + surplus(random);
         let buffers = Buffers::new([l, u, 0, 0, 0], random);
-        Self { n, c, buffers }
+        Self {
+            n,
+            c,
+            counter: counter::start(random),
+            buffers,
+        }
     }
 
     /// A row, a column or a right-hand side.
@@ -137,7 +144,11 @@ impl fmt::Display for Made<'_> {
             column,
             diagonal,
         } = call;
-        write!(f, "{} n {} c {}", function.text(), instance.n, instance.c)?;
+        let Instance { n, c, counter, .. } = instance;
+        write!(f, "{} n {n} c {c}", function.text())?;
+        if function.is_update() {
+            write!(f, " counter {counter}")?;
+        }
         match function {
             Push => write!(f, " diagonal {:016x}", diagonal.to_bits()),
             ReplaceRow => write!(f, " row {row}"),

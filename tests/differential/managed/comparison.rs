@@ -4,16 +4,20 @@
 use super::answer::{Answer, Outputs};
 use super::archive::call_archive;
 use super::call::{Call, Instance, Made};
+use super::counter::allowed;
 use super::counts::Counts;
 use super::expected::Expected;
-use super::faults::{plant, Fault};
+use super::faults::{plant, plant_in_copy, Fault};
+use super::paths::counter_paths;
+use super::plain::Plain;
 use super::published::call_rust;
 use crate::calls::{describe, Calls, End};
 use crate::plant::Planter;
 use crate::random::Random;
 
-/// Instances with one dimension and the same active entries and data. They may
-/// differ in capacity, in lengths, and in everything that is not active.
+/// Instances with one dimension, one counter, and the same active entries and
+/// data. They may differ in capacity, in lengths, and in everything that is not
+/// active.
 pub struct Sides {
     pub rust: Instance,
     pub archive: Vec<Instance>,
@@ -54,18 +58,32 @@ impl Comparison {
             return Err(self.report(call, &before, "the Rust panicked"));
         };
         let expected = Expected::new(call, &before, answer, rust);
-        self.check_document(call, &before, outputs, answer)?;
-        self.counts.add(call, &before, &expected);
+        for instance in archive.iter().chain([&before]) {
+            self.check_document(call, instance, outputs, answer)?;
+        }
         self.check(call, &before, &expected, ("the Rust", answer, rust))?;
+        let answer = self.count(call, &before, &expected)?;
+        rust.counter = answer.outputs.counter;
+        self.call_instances(call, sides, outputs, answer)
+    }
+
+    /// Makes a call on the archive's instances, after the Rust. `answer` is expected.
+    fn call_instances(
+        &mut self,
+        call: &Call,
+        sides: &mut Sides,
+        outputs: Outputs,
+        answer: Answer,
+    ) -> Result<(), End> {
+        let Sides { rust, archive } = sides;
         let last = archive.len() - 1;
         for (k, instance) in archive.iter_mut().enumerate() {
             let before = instance.clone();
             let found = call_archive(call, instance, outputs);
             let mut expected = Expected::new(call, &before, answer, rust);
-            self.check_document(call, &before, outputs, answer)?;
             if k == last {
-                let made = self.calls.made;
-                plant(&mut self.planter, made, call, &before, &mut expected);
+                let (planter, made) = (&mut self.planter, self.calls.made);
+                plant(planter, made, call, &before, outputs, &mut expected);
             }
             let side = ["the archive", "the archive's second instance"][k];
             self.check(call, &before, &expected, (side, found, instance))?;
@@ -74,6 +92,51 @@ impl Comparison {
             return Err(End::PlantedNotFound);
         }
         Ok(())
+    }
+
+    /// Counts a call with its paths. Gives the Rust's answer with the driver's own
+    /// count of pair steps, which the Rust does not have.
+    fn count(
+        &mut self,
+        call: &Call,
+        before: &Instance,
+        expected: &Expected,
+    ) -> Result<Answer, End> {
+        let (mut answer, mut paths, mut steps) = (expected.answer, vec![], 0);
+        if call.function.is_update() {
+            if answer.number == 0 {
+                Plain { steps, paths, .. } = self.update_plain(call, before, expected)?;
+            }
+            answer = answer.counted(before, steps);
+            paths.extend(counter_paths(call, before, &answer));
+        }
+        self.counts.add(call, before, expected, paths);
+        Ok(answer)
+    }
+
+    /// An accepted update by the plain copy, which must leave what the Rust leaves, in
+    /// no more pair steps than are allowed.
+    fn update_plain(
+        &mut self,
+        call: &Call,
+        before: &Instance,
+        expected: &Expected,
+    ) -> Result<Plain, End> {
+        let plain = Plain::updated(call, before);
+        let mut left = before.clone();
+        plain.write(&mut left);
+        let (planter, made) = (&mut self.planter, self.calls.made);
+        plant_in_copy(planter, made, call, before, expected, &mut left);
+        let mut answer = expected.answer;
+        answer.outputs.n = left.n;
+        let side = "the plain copy of document 01's steps";
+        self.check(call, before, expected, (side, answer, &left))?;
+        let (steps, allowed) = (plain.steps, allowed(call, before.n));
+        if steps > allowed {
+            let what = format!("{side} made {steps} pair steps, expected at most {allowed}");
+            return Err(self.report(call, before, &what));
+        }
+        Ok(plain)
     }
 
     /// The Rust's answer must be document 01's, in every instance.

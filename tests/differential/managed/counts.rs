@@ -5,7 +5,7 @@ use std::fmt;
 
 use super::call::{Call, Function, Instance, FUNCTIONS};
 use super::expected::Expected;
-use super::paths::{all_paths, paths};
+use super::paths::all_paths;
 
 #[derive(Default)]
 pub struct Counts {
@@ -19,15 +19,21 @@ pub struct Counts {
 }
 
 impl Counts {
-    pub fn add(&mut self, call: &Call, before: &Instance, expected: &Expected) {
+    pub fn add(
+        &mut self,
+        call: &Call,
+        before: &Instance,
+        expected: &Expected,
+        paths: Vec<&'static str>,
+    ) {
         let function = call.function as usize;
         let number = expected.answer.number;
         self.answers[function][number as usize] += 1;
+        for path in paths {
+            *self.paths[function].entry(path).or_default() += 1;
+        }
         if number != 0 {
             return;
-        }
-        for path in paths(call, before) {
-            *self.paths[function].entry(path).or_default() += 1;
         }
         self.at_4 += u64::from(before.n >= 4);
         self.at_16 += u64::from(before.n >= 16);

@@ -32,13 +32,20 @@ pub enum Fault {
     Lengths,
     Ready,
     OutputAfterRefusal,
+    Counter,
+    CounterBeyondEnd,
+    CounterAfterRefusal,
+    Steps,
+    StepsAfterRefusal,
+    PlainCopy,
 }
 
 use Fault::*;
 
-/// Every kind of fault, with what it changes in the last instance.
+/// Every kind of fault, with what it changes in the last instance, or for the last
+/// kind in the plain copy.
 #[rustfmt::skip]
-pub const FAULTS: [(Fault, &str); 19] = [
+pub const FAULTS: [(Fault, &str); 25] = [
     (Factor, "the last bit of an active entry after an update"),
     (Solution, "the last bit of an entry of a solution"),
     (SignOfZero, "the sign of a zero in a result"),
@@ -58,6 +65,12 @@ pub const FAULTS: [(Fault, &str); 19] = [
     (Lengths, "the lengths of L and U, exchanged"),
     (Ready, "whether the factors are ready"),
     (OutputAfterRefusal, "an output after a refusal"),
+    (Counter, "the counter after an update, one too many"),
+    (CounterBeyondEnd, "the counter after an update, not stopped at 999,999"),
+    (CounterAfterRefusal, "the counter after a refusal, one more"),
+    (Steps, "the number of pair steps, one too many"),
+    (StepsAfterRefusal, "the number of pair steps, not written by a refused update"),
+    (PlainCopy, "the last bit of an active entry of the plain copy after an update"),
 ];
 
 #[derive(Clone, Copy)]
@@ -71,6 +84,7 @@ pub fn plant(
     made: u64,
     call: &Call,
     before: &Instance,
+    outputs: Outputs,
     expected: &mut Expected,
 ) {
     let chosen = planter.choose(made, |fault| {
@@ -80,7 +94,8 @@ pub fn plant(
         let changes = places
             .into_iter()
             .map(|(name, place)| Change::Place(name, place));
-        let answer = wrong_answer(fault, call, expected.answer);
+        let answer = wrong_answer(fault, call, expected.answer)
+            .or_else(|| wrong_count(fault, call, outputs.of(before), expected.answer));
         changes.chain(answer.map(Change::Answer)).collect()
     });
     let buffers = &mut expected.buffers;
@@ -93,6 +108,25 @@ pub fn plant(
             NumberForNan => *buffers.rust[name].at_mut(place) = 1.0,
             _ => flip(buffers.before[name].at_mut(place), bit),
         },
+    }
+}
+
+/// Plants a fault in what the plain copy left after an accepted update.
+pub fn plant_in_copy(
+    planter: &mut Planter<Fault>,
+    made: u64,
+    call: &Call,
+    before: &Instance,
+    expected: &Expected,
+    left: &mut Instance,
+) {
+    let chosen = planter.choose(made, |fault| {
+        places(&expected.buffers, |name, place| {
+            fault == PlainCopy && suits(Factor, call, before, expected, name, place)
+        })
+    });
+    if let Some((_, (name, place), _)) = chosen {
+        flip(left.buffers[name].at_mut(place), 0);
     }
 }
 
@@ -125,6 +159,22 @@ fn wrong_answer(fault: Fault, call: &Call, answer: Answer) -> Option<Answer> {
             Function::StorageLengths => *u ^= 1,
             _ => {}
         },
+        _ => {}
+    }
+    (wrong != answer).then_some(wrong)
+}
+
+/// The same of the counter and the pair steps of an update whose outputs held `outputs`.
+fn wrong_count(fault: Fault, call: &Call, outputs: Outputs, answer: Answer) -> Option<Answer> {
+    let mut wrong = answer;
+    let Outputs { counter, steps, .. } = &mut wrong.outputs;
+    match (fault, answer.number == 0) {
+        _ if !call.function.is_update() => {}
+        (Counter, true) => *counter += 1,
+        (CounterBeyondEnd, true) => *counter = outputs.counter.wrapping_add(*steps),
+        (CounterAfterRefusal, false) => *counter = counter.wrapping_add(1),
+        (Steps, true) => *steps += 1,
+        (StepsAfterRefusal, false) => *steps = outputs.steps,
         _ => {}
     }
     (wrong != answer).then_some(wrong)

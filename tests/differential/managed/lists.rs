@@ -3,6 +3,7 @@
 
 use super::call::{Call, Function, Instance, DATA, FUNCTIONS};
 use super::comparison::{Comparison, Sides};
+use super::counter;
 use super::refusals::number;
 use super::spoil::{other_length, spoil};
 use crate::aim;
@@ -40,7 +41,7 @@ pub fn call_long_list(random: &mut Random, comparison: &mut Comparison) -> Resul
     let mut list = List::start(n, room, random);
     for _ in 0..random.between(20, 300) {
         list.step(random, comparison)?;
-        let Instance { n, c, buffers } = &list.sides.rust;
+        let Instance { n, c, buffers, .. } = &list.sides.rust;
         if is_degenerate(buffers, *c, *n) && random.chance(1, 3) {
             break;
         }
@@ -67,12 +68,18 @@ impl List {
         let own = room + random.below(5);
         let mut rust = Instance::new(n, own, random);
         fill_factors(&mut rust.buffers, own, n, profile, random);
-        let archive = capacities.map(|c| Instance::new(n, c, random)).to_vec();
+        let archive = capacities.map(|c| Instance {
+            counter: rust.counter,
+            ..Instance::new(n, c, random)
+        });
         Self {
             target: random.dimension(room),
             room,
             profile,
-            sides: Sides { rust, archive },
+            sides: Sides {
+                rust,
+                archive: archive.to_vec(),
+            },
             at_start: true,
         }
     }
@@ -177,7 +184,7 @@ impl List {
 
     /// Data at the guards of the call.
     fn aim_data(&mut self, call: &Call, random: &mut Random) {
-        let Instance { n, c, buffers } = &mut self.sides.rust;
+        let Instance { n, c, buffers, .. } = &mut self.sides.rust;
         let [_, u, _, _, _, row, column, _] = buffers.slices_mut();
         let pivots: Vec<_> = diagonal(*c, *n).map(|place| u[place]).collect();
         match call.function {
@@ -193,7 +200,7 @@ impl List {
 
     /// Factors at the guards of an update, or such that a solve is accepted.
     fn aim_factors(&mut self, call: &Call, random: &mut Random) {
-        let Instance { n, c, buffers } = &mut self.sides.rust;
+        let Instance { n, c, buffers, .. } = &mut self.sides.rust;
         let [l, u, _, _, _, row, column, _] = buffers.slices_mut();
         match (call.function, random.below(2)) {
             (Function::Push, _) if row.len() == *n => aim::at_pivot(row, u, *c, MANAGED, random),
@@ -235,8 +242,9 @@ impl List {
         })
     }
 
-    /// A call on a copy of one instance, with some causes for a refusal. The Rust
-    /// has another copy, so it finds the same causes.
+    /// A call on a copy of one instance, sometimes with another counter and with
+    /// some causes for a refusal. The Rust has another copy, so it finds the same
+    /// causes.
     fn call_beside(
         &self,
         mut call: Call,
@@ -244,6 +252,8 @@ impl List {
         comparison: &mut Comparison,
     ) -> Result<(), End> {
         let mut copy = self.sides.archive[random.below(2)].clone();
+        let other = counter::start(random);
+        copy.counter = random.pick(&[copy.counter, other]);
         if random.chance(1, 2) {
             call.function = random.pick(&FUNCTIONS);
         }

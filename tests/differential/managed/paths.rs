@@ -1,202 +1,101 @@
-//! The paths that an accepted update takes, as far as they show in what it is
-//! given: where its row and column are, what becomes of every pair of its first
-//! Backward, and of the first pair of its first Forward. After Backward has
-//! changed U's first row, Forward's first pair in replace_row does not show.
+//! The paths of an update: where its row and column are, what becomes of every
+//! pair of each Forward and Backward, which the plain copy notes as it runs, and
+//! what becomes of the counter.
 
+use super::answer::Answer;
 use super::call::{Call, Function, Instance};
-use crate::buffers::Name;
-use crate::data::MANAGED;
-use crate::places::{l_column, l_place, u_column};
+use super::counter::{most, END};
 
-/// What becomes of a pair.
-#[derive(Clone, Copy, PartialEq)]
-enum Step {
-    Skipped,
-    Cleared,
-    Eliminated,
-    Exchanged,
-}
-
-const FORWARD: [&str; 4] = [
+/// By what becomes of a pair, as are the three below.
+pub const FORWARD: [&str; 4] = [
     "Forward skips",
     "Forward clears",
     "Forward eliminates",
     "Forward exchanges",
 ];
-const BACKWARD: [&str; 4] = [
+/// Of a Forward's first pair.
+pub const FIRST_FORWARD: [&str; 4] = [
+    "Forward skips first",
+    "Forward clears first",
+    "Forward eliminates first",
+    "Forward exchanges first",
+];
+pub const BACKWARD: [&str; 4] = [
     "Backward skips",
     "Backward clears",
     "Backward eliminates",
     "Backward exchanges",
 ];
-const TRIMMING: [&str; 2] = ["keeps the last row", "trims"];
+/// Of the Backward that does not trim, with which remove ends.
+pub const LAST_BACKWARD: [&str; 4] = [
+    "last Backward skips",
+    "last Backward clears",
+    "last Backward eliminates",
+    "last Backward exchanges",
+];
+pub const TRIMMING: [&str; 2] = ["keeps the last row", "trims"];
 const DIMENSION_1: &str = "dimension 1";
 const LAST_OR_INNER_ROW: [&str; 2] = ["last row", "inner row"];
 const LAST_OR_INNER_COLUMN: [&str; 2] = ["last column", "inner column"];
+const COUNTER: [&str; 6] = [
+    "counter stops at 999,999",
+    "larger counter accepted",
+    "larger counter accepted without a pair step",
+    "larger counter refused",
+    "sum beyond 64 bits",
+    "most pair steps",
+];
 
 /// The paths of a function that a run must take.
 pub fn all_paths(function: Function) -> Vec<&'static str> {
-    let places = match function {
-        Function::Push => return [&[DIMENSION_1], &FORWARD[..]].concat(),
-        Function::ReplaceRow => vec![DIMENSION_1],
-        Function::ReplaceColumn => LAST_OR_INNER_COLUMN.to_vec(),
-        Function::Remove => [
+    let paths: &[&[&str]] = match function {
+        Function::Push => &[&[DIMENSION_1], &FORWARD],
+        Function::ReplaceRow => &[&[DIMENSION_1], &TRIMMING, &BACKWARD, &FORWARD],
+        Function::ReplaceColumn => &[&LAST_OR_INNER_COLUMN, &TRIMMING, &BACKWARD, &FORWARD],
+        Function::Remove => &[
             &[DIMENSION_1],
-            &LAST_OR_INNER_ROW[..],
+            &LAST_OR_INNER_ROW,
             &LAST_OR_INNER_COLUMN,
-        ]
-        .concat(),
+            &TRIMMING,
+            &BACKWARD,
+            &FORWARD,
+            &LAST_BACKWARD,
+        ],
         _ => return vec![],
     };
-    [&places[..], &TRIMMING, &BACKWARD, &FORWARD].concat()
+    [&paths.concat()[..], &FIRST_FORWARD, &COUNTER].concat()
 }
 
-/// The paths that an accepted call takes, some more than once.
-pub fn paths(call: &Call, before: &Instance) -> Vec<&'static str> {
-    match call.function {
-        Function::Push => push(before),
-        Function::ReplaceRow => replace_row(call.row, before),
-        Function::ReplaceColumn => replace_column(call.column, before),
-        Function::Remove => remove(call, before),
+/// Where the row and column of an accepted update at dimension n are.
+pub fn position(call: &Call, n: usize) -> Vec<&'static str> {
+    let row = || LAST_OR_INNER_ROW[usize::from(call.row + 1 < n)];
+    let column = || LAST_OR_INNER_COLUMN[usize::from(call.column + 1 < n)];
+    match (call.function, n) {
+        (Function::Push, 0) => vec![DIMENSION_1],
+        (Function::ReplaceRow | Function::Remove, 1) => vec![DIMENSION_1],
+        (Function::ReplaceColumn, _) => vec![column()],
+        (Function::Remove, _) => vec![row(), column()],
         _ => vec![],
     }
 }
 
-fn push(before: &Instance) -> Vec<&'static str> {
-    if before.n == 0 {
-        return vec![DIMENSION_1];
-    }
-    let [u, row] = [Name::U, Name::Row].map(|name| before.buffers[name].slice());
-    vec![FORWARD[forward(u[0], row[0]) as usize]]
-}
-
-fn replace_row(row: usize, before: &Instance) -> Vec<&'static str> {
-    if before.n == 1 {
-        return vec![DIMENSION_1];
-    }
-    let [l, u, values] = [Name::L, Name::U, Name::Row].map(|name| before.buffers[name].slice());
-    let places = l_column(before.c, before.n, row);
-    let mut backward = Backward::new(places.map(|place| l[place]).collect());
-    backward.trim(0);
-    backward.run(0);
-    let mut paths = backward.paths;
-    if let Some(Step::Skipped | Step::Cleared) = backward.last {
-        paths.push(FORWARD[forward(u[0], values[0]) as usize]);
-    }
-    paths
-}
-
-fn replace_column(column: usize, before: &Instance) -> Vec<&'static str> {
-    let n = before.n;
-    let [l, values] = [Name::L, Name::Column].map(|name| before.buffers[name].slice());
-    let product = |row| {
-        let terms = (0..n).map(|j| l[l_place(before.c, row, j)] * values[j]);
-        terms.sum()
-    };
-    let mut paths = vec![LAST_OR_INNER_COLUMN[usize::from(column + 1 < n)]];
-    if column + 1 < n {
-        paths.extend(restore((0..n).map(product).collect(), column));
-    }
-    paths
-}
-
-fn remove(call: &Call, before: &Instance) -> Vec<&'static str> {
-    let (n, c) = (before.n, before.c);
-    if n == 1 {
-        return vec![DIMENSION_1];
-    }
-    let [l, u] = [Name::L, Name::U].map(|name| before.buffers[name].slice());
-    let mut paths = vec![
-        LAST_OR_INNER_ROW[usize::from(call.row + 1 < n)],
-        LAST_OR_INNER_COLUMN[usize::from(call.column + 1 < n)],
+/// What becomes of the counter in an update that gives `answer`, and whether it
+/// makes the most pair steps, where these are more than one.
+pub fn counter_paths(call: &Call, before: &Instance, answer: &Answer) -> Vec<&'static str> {
+    let Instance { n, counter, .. } = *before;
+    let steps = answer.outputs.steps;
+    let (accepted, larger) = (answer.number == 0, counter > END);
+    let taken = [
+        accepted && !larger && counter + steps > END,
+        accepted && larger && steps > 0,
+        accepted && larger && steps == 0,
+        !accepted && larger,
+        accepted && counter.checked_add(steps).is_none(),
+        accepted && n >= 3 && steps > 1 && steps == most(call, n),
     ];
-    if call.column + 1 < n {
-        let last = u_column(c, n - 1).map(|place| u[place]);
-        paths.extend(restore(last.collect(), call.column));
-    } else {
-        let removed = l_column(c, n, call.row).map(|place| l[place]);
-        let mut backward = Backward::new(removed.collect());
-        backward.run(0);
-        paths.extend(backward.paths);
-    }
+    let paths = COUNTER.into_iter().zip(taken);
     paths
-}
-
-/// After v has taken the place of a column of U: Backward on v, then Forward.
-fn restore(v: Vec<f64>, column: usize) -> Vec<&'static str> {
-    let mut backward = Backward::new(v);
-    backward.trim(column + 1);
-    backward.run(column + 1);
-    let Backward {
-        v,
-        selected,
-        mut paths,
-        ..
-    } = backward;
-    paths.push(FORWARD[forward(v[column], v[selected]) as usize]);
-    paths
-}
-
-/// Backward on v, which alone decides what becomes of each pair.
-struct Backward {
-    v: Vec<f64>,
-    selected: usize,
-    /// What became of the last pair, that of the first row.
-    last: Option<Step>,
-    paths: Vec<&'static str>,
-}
-
-impl Backward {
-    fn new(v: Vec<f64>) -> Self {
-        Self {
-            selected: v.len() - 1,
-            v,
-            last: None,
-            paths: vec![],
-        }
-    }
-
-    fn trim(&mut self, first: usize) {
-        let end = self.selected;
-        while self.selected > first && self.v[self.selected].abs() <= MANAGED.e {
-            self.selected -= 1;
-        }
-        self.paths.push(TRIMMING[usize::from(self.selected < end)]);
-    }
-
-    fn run(&mut self, first: usize) {
-        for row in (first..self.selected).rev() {
-            let (pivot, other) = (self.v[self.selected], self.v[row]);
-            let step = if other.abs() <= MANAGED.e * pivot.abs() {
-                Step::Skipped
-            } else {
-                pair(pivot, other)
-            };
-            match step {
-                Step::Cleared => self.v[self.selected] = 0.0,
-                Step::Exchanged => self.v[self.selected] = other,
-                Step::Skipped | Step::Eliminated => {}
-            }
-            self.last = Some(step);
-            self.paths.push(BACKWARD[step as usize]);
-        }
-    }
-}
-
-fn forward(pivot: f64, other: f64) -> Step {
-    if other.abs() > MANAGED.e * pivot.abs() {
-        pair(pivot, other)
-    } else {
-        Step::Skipped
-    }
-}
-
-fn pair(pivot: f64, other: f64) -> Step {
-    let larger = pivot.abs() >= other.abs();
-    let magnitude = if larger { pivot.abs() } else { other.abs() };
-    match magnitude <= MANAGED.t {
-        true => Step::Cleared,
-        false if larger => Step::Eliminated,
-        false => Step::Exchanged,
-    }
+        .filter(|(_, taken)| *taken)
+        .map(|(path, _)| path)
+        .collect()
 }

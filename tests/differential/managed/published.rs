@@ -11,8 +11,7 @@ use super::call::{Call, Function, Instance};
 
 /// Makes the call in the Rust. None: the Rust panicked.
 pub fn call_rust(call: &Call, instance: &mut Instance, outputs: Outputs) -> Option<Answer> {
-    let n = instance.n;
-    let mut outputs = Outputs { n, ..outputs };
+    let mut outputs = outputs.of(instance);
     let made = catch_unwind(AssertUnwindSafe(|| match call.function {
         Function::StorageLengths => lengths(instance.c, &mut outputs),
         Function::Ready => ready(instance.clone(), &mut outputs),

@@ -124,7 +124,7 @@ pub fn lengths(c: usize) -> (u128, u128) {
 /// and the number that it calls for. In short storage the entries that are there
 /// are looked at.
 pub fn bad_diagonal(instance: &Instance) -> Option<(usize, u32)> {
-    let Instance { n, c, buffers } = instance;
+    let Instance { n, c, buffers, .. } = instance;
     let u = buffers[Name::U].slice();
     diagonal(*c, *n.min(c))
         .map_while(|place| u.get(place))

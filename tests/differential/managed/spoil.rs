@@ -79,7 +79,7 @@ fn fit_lengths(function: Function, instance: &mut Instance, random: &mut Random)
 }
 
 fn spoil_other(cause: Cause, call: &mut Call, instance: &mut Instance, random: &mut Random) {
-    let Instance { n, c, buffers } = instance;
+    let Instance { n, c, buffers, .. } = instance;
     let (l, u) = lengths(*c);
     match cause {
         Cause::Dimension | Cause::Overflow | Cause::NoRoom => {}
@@ -131,7 +131,7 @@ pub fn other_length(length: usize, random: &mut Random) -> usize {
 
 /// One active diagonal entry of U, or two, that a solve is refused for.
 fn spoil_diagonal(instance: &mut Instance, random: &mut Random) {
-    let Instance { n, c, buffers } = instance;
+    let Instance { n, c, buffers, .. } = instance;
     let u = buffers[Name::U].slice_mut();
     let places: Vec<_> = diagonal(*c, *n.min(c))
         .take_while(|&place| place < u.len())
