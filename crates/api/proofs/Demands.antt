@@ -39,7 +39,7 @@ demand-1 = record {
 
 pub counting : Counting
 counting c s t a b k o = record {
-  carried-out = λ e. (accepted-counted (ieee binary64) (managedEpsilon binary64) (managedTiny binary64) o e, o .counter e);
+  carried-out = accepted-counted (ieee binary64) (managedEpsilon binary64) (managedTiny binary64) o;
   refused = refused-not-counted (ieee binary64) (managedEpsilon binary64) (managedTiny binary64) o;
   at-most = steps-at-most (ieee binary64) (managedEpsilon binary64) (managedTiny binary64) o;
   within-most = steps-within-most (ieee binary64) (managedEpsilon binary64) (managedTiny binary64) o;

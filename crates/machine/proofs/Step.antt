@@ -68,6 +68,11 @@ module _ (N : NumberForm) (E T : N .Value) where
         go none e = accepted-same c e
         go (some a) e = record { answer = refl; solved = refl; after = states-agree }
 
+  pub refusal-agrees : (S R : State Value) (c : Call Value) → Agree S R → refusal N S c ≡ refusal N R c
+  refusal-agrees S R c h =
+      subst (λ (n : ℕ). refusal N S c ≡ refusal N (record { n = n; L = R .L; U = R .U }) c) (h .n)
+      (refusal-same (S .n) (S .L) (S .U) (R .L) (R .U) (h .L) (h .U) c)
+
   pub step-same : (S R : State Value) (c : Call Value) → Agree S R → Same (step N E T S c) (step N E T R c)
   step-same S R c h =
       subst (λ (n : ℕ). Same (step N E T S c) (step N E T (record { n = n; L = R .L; U = R .U }) c)) (h .n)

@@ -167,8 +167,9 @@ pub record CountTable : Type 0 where
   forward-nan : pairSteps (single (whole 2)) (push (nan ∷ []) (whole 6 ∷ []) (whole 1)) ≡ 0
   row-skipped : pairSteps (identity 4) (replaceColumn 0 (whole 1 ∷ whole 1 ∷ whole 0 ∷ whole 1 ∷ [])) ≡ 2
   backward-nan : pairSteps (identity 3) (replaceColumn 0 (whole 1 ∷ nan ∷ whole 1 ∷ [])) ≡ 1
-  -- a pair step counts whether or not its multiplier is zero: an exchange with a zero, and two numbers within T
+  -- a pair step counts whether or not its multiplier is zero: an exchange with a zero, in Forward and in Backward, and two numbers within T
   zero-exchanged : pairSteps (single (whole 0)) (push (whole 1 ∷ []) (whole 1 ∷ []) (whole 1)) ≡ 1
+  zero-exchanged-backward : pairSteps (identity 2) (remove 0 1) ≡ 1
   both-tiny : pairSteps (single (whole 0)) (push (double 1 (2 ^ 80) ∷ []) (whole 1 ∷ []) (whole 1)) ≡ 1
   -- rows that are trimmed do not count
   row-trimmed : pairSteps M′ (replaceRow 1 (whole 4 ∷ whole 4 ∷ neg (whole 4) ∷ [])) ≡ 2
@@ -205,6 +206,7 @@ countTable = record {
   row-skipped = refl;
   backward-nan = refl;
   zero-exchanged = refl;
+  zero-exchanged-backward = refl;
   both-tiny = refl;
   row-trimmed = refl;
   column-trimmed = refl;

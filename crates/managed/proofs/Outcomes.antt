@@ -25,7 +25,7 @@ module _ (N : NumberForm) (E T : N .Value) (c : Call (N .Value)) (s : Instance (
         (record { answer = refl; solved = refl; after = agree-refl (view N s) });
     steps = rw e;
     capacity = refl;
-    counter = λ f. absurd (none-is-some f e);
+    counter = rw e;
     untouched = λ r _. refl;
     frame = λ f. absurd (none-is-some f e);
   }
@@ -37,7 +37,7 @@ module _ (N : NumberForm) (E T : N .Value) (c : Call (N .Value)) (s : Instance (
     result = subst (λ (p : Option Answer). Same (record { answer = a; solved = b; after = view N t }) (stepUnder N E T p (view N s) c)) (sym e) same;
     steps = rw e counted;
     capacity = same-capacity;
-    counter = λ _. added;
+    counter = rw e added;
     untouched = λ r f. absurd (none-is-some e f);
     frame = λ _. framed;
   }

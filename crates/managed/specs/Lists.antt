@@ -8,22 +8,22 @@ use Prim.Native.Nat.{ℕ, _+_, _≤_}
 use lib.ListN.{length}
 use Rattle.numbers.specs.NumberForm.{NumberForm}
 use Rattle.machine.specs.Calls.{Call, Answer, Result, isPush, isUpdate}
-use Rattle.machine.specs.Counter.{capped, CountedState, CountedResult, countedRun}
+use Rattle.machine.specs.Counter.{CountedState, CountedResult, countedRun}
 use Rattle.machine.specs.Agreement.{Agree, Same}
 use Rattle.managed.specs.Instance.{Instance, view, viewCounted}
 use Rattle.managed.specs.Refusals.{lentTests}
 use Rattle.managed.specs.Outcome.{Outcome}
 
--- equal dimensions, active entries and counters; counters are equal where they count as the same figure
+-- equal dimensions, active entries and counters
 pub record AgreeCounted {A : Type 0} (S R : CountedState A) : Type 0 where
   pub state : Agree (S .state) (R .state)
-  pub counter : capped (S .counter) ≡ capped (R .counter)
+  pub counter : S .counter ≡ R .counter
 
 -- the same answer, number of pair steps and solved vector, and after the call the same dimension, active factors and counter
 pub record SameCounted {A : Type 0} (a b : CountedResult A) : Type 0 where
   pub result : Same (a .result) (b .result)
   pub steps : a .steps ≡ b .steps
-  pub counter : capped (a .counter) ≡ capped (b .counter)
+  pub counter : a .counter ≡ b .counter
 
 module _ {A : Type 0} where
   -- Pushes in the list are counted whether refused or not.
@@ -62,9 +62,9 @@ module _ (N : NumberForm) where
 module _ (N : NumberForm) (E T : N .Value) where
   open NumberForm N using (Value)
 
-  -- The call c of an instance that stays at one capacity, where `room` is the starting dimension plus the pushes in the list. It gets the dimension,
-  -- active factors and counter of S, as the call before left them, and lends storage and workspaces that pass refusals 1 to 3. What else its memory holds, and how long
-  -- its buffers are beyond that, is free.
+  -- The call c of an instance that stays at one capacity, where `room` is the starting dimension plus the pushes in the list. It gets the dimension, active
+  -- factors and counter of S, as the call before left them, and lends storage and workspaces that pass refusals 1 to 3. What else its memory holds, and how
+  -- long its buffers are beyond that, is free.
   pub record Happens (capacity room : ℕ) (S : CountedState Value) (c : Call Value) (e : Event Value) : Type 0 where
     pub resumes : AgreeCounted S (viewCounted N (e .before))
     pub at-capacity : e .before .c ≡ capacity
@@ -79,8 +79,8 @@ module _ (N : NumberForm) (E T : N .Value) where
   Trace capacity room S (c ∷ cs) [] = ⊥
   Trace capacity room S (c ∷ cs) (e ∷ es) = Happens capacity room S c e × Trace capacity room (viewCounted N (e .after)) cs es
 
-  -- The premises: all start at one dimension with equal active entries and counters, the plain machine from S and the instances from S₁ and S₂; capacities and workspaces
-  -- are at least the starting dimension plus the number of pushes in the list.
+  -- The premises: all start at one dimension with equal active entries and counters, the plain machine from S and the instances from S₁ and S₂; capacities
+  -- and workspaces are at least the starting dimension plus the number of pushes in the list.
   pub record Setting (cs : List (Call Value)) (S S₁ S₂ : CountedState Value) (capacity₁ capacity₂ : ℕ) (es₁ es₂ : List (Event Value)) : Type 0 where
     pub start₁ : AgreeCounted S S₁
     pub start₂ : AgreeCounted S S₂

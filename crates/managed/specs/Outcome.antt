@@ -11,7 +11,7 @@ use Rattle.machine.specs.Counts.{countUnder}
 use Rattle.machine.specs.Agreement.{Same}
 use Rattle.storage.specs.Places.{LPlace, UPlace, WorkPlace}
 use Rattle.storage.specs.Views.{Kept}
-use Rattle.machine.specs.Counter.{counterAfter}
+use Rattle.machine.specs.Counter.{counterUnder}
 use Rattle.managed.specs.Instance.{Instance, view}
 use Rattle.managed.specs.Refusals.{refusalAt}
 
@@ -50,8 +50,8 @@ module _ (N : NumberForm) (E T : N .Value) where
     -- the number is that of the machine, and 0 for a refused call
     pub steps : k ≡ countUnder N E T (refusalAt N s c) (view N s) c
     pub capacity : t .c ≡ s .c
-    -- an accepted update adds it to the counter, which stops at 999,999; a solve leaves the counter
-    pub counter : refusalAt N s c ≡ none → t .counter ≡ counterAfter c (s .counter) k
+    -- an accepted update adds it to the counter, which stops at 999,999; a solve and a refused call leave the counter
+    pub counter : t .counter ≡ counterUnder (refusalAt N s c) c (s .counter) k
     -- refusals write nothing anywhere
     pub untouched : (r : Answer) → refusalAt N s c ≡ some r → t ≡ s
     -- an accepted call leaves all but the active entries and the scratch
