@@ -1,6 +1,6 @@
 /*
  * lumod.h: calls on the factors of a matrix that is being changed. Link with
- * liblumod_c.a. For C (C99 on) and C++, where size_t has 64 bits.
+ * liblumod.a. For C (C99 on) and C++, where size_t has 64 bits.
  *
  * The factors of an n by n matrix A are L and U with L * A = U. L is square,
  * U is upper triangular, and n is the dimension. Updates append, replace and

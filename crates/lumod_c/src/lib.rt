@@ -15,8 +15,6 @@ use zero_based::product_lacks_room;
 use zero_based::solve_lacks_room;
 use zero_based::update_lacks_room;
 
-pub mod managed_calls;
-
 // Updates the factors. Mode 1 appends a row and a column (n is the new dimension; row and diagonal in y, column in z), 2 replaces column kcol by z, 3 replaces
 // row krow by y, 4 removes row krow and column kcol. 11 where n, mode or an index is out of range, 12 where a buffer is too short; then nothing is written.
 #[no_mangle]

@@ -1,0 +1,19 @@
+-- What a managed call returns to a C host: document 01's number, the outcome, and what each out-parameter holds afterwards.
+use mathlib.Core.Path.{_≡_}
+use mathlib.Core.List.{List}
+use Prim.Native.Nat.{ℕ}
+use lib.Ieee.{Float}
+use Rattle.machine.specs.Calls.{Call, Answer, numberOf}
+use Rattle.managed.specs.Instance.{Instance}
+use Rattle.api.specs.Demands.{ManagedOutcome}
+
+-- A call returns the number of its answer; k is how many pair steps it made, and `Out` says what its answer leaves in the out-parameters.
+pub record Returned (c : Call Float) (s t : Instance Float) (b : List Float) (k : ℕ) (Out : Answer → Type 0) (number : ℕ) : Type 0 where
+  pub answer : Answer
+  pub outcome : ManagedOutcome c s t answer b k
+  pub is-number : number ≡ numberOf answer
+  pub out : Out answer
+
+-- the calls without an out-parameter of their own
+abbrev pub NoOut : Answer → Type 0
+NoOut a = Unit {0}

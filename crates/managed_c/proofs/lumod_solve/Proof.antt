@@ -1,0 +1,43 @@
+-- `lumod_solve`: the outcome of the solve, its number, and the index that it names.
+use borrow.Author.Needs.{needs}
+use mathlib.Core.Path.{refl}
+use denote.Ref.{now}
+use Rattle.machine.specs.Calls as calls
+use Rattle.managed.specs.Instance.{lentToSolve}
+use Rattle.answers.proofs.Returns.{returned-solved, solve-stays}
+use Rattle.managed_c.proofs.lumod_solve.Statement.{statement}
+use Rattle.managed_c.proofs.lumod_solve.Tie as tie
+
+solve-in-place-requires : tie.Need-solve-in-place-requires
+solve-in-place-requires c κs = search needs
+
+named-index-requires : tie.Need-named-index-requires
+named-index-requires c κs = search needs
+
+answer-number-requires : tie.Need-answer-number-requires
+answer-number-requires c κs = search needs
+
+same-length : tie.Need-same-length
+same-length c = search needs
+
+same-length-2 : tie.Need-same-length-2
+same-length-2 c = search needs
+
+returns : tie.Need-returns
+returns c =
+    let i : tie.After-solve-in-place = search in
+    let start : tie.Start = search in
+    let a = start .args in
+    let s = lentToSolve (a .n) (a .c) 0 (now (a .l)) (now (a .u)) in
+    returned-solved (calls.solve (now (a .rhs))) s (i .solve-in-place .ensures) (c .answer-number .ensures) (c .before .named-index .ensures) (solve-stays (now (a .rhs)) s) refl
+
+pub lumod-solve-spec : {M : Type 1} → statement M
+lumod-solve-spec =
+    tie.close
+    (tie.spec
+    solve-in-place-requires
+    named-index-requires
+    answer-number-requires
+    same-length
+    same-length-2
+    returns)
