@@ -1,6 +1,6 @@
-//! The archive's side.
+//! An archive's side.
 
-use crate::declarations::*;
+use super::declarations::*;
 use crate::inputs::Case;
 use crate::sides::Factors;
 

@@ -1,20 +1,37 @@
-//! Times the managed calls of the archive and of the published Rust on the same inputs.
+//! Times the managed calls of the archive and of the published Rust on the same inputs; built
+//! with `--cfg before`, those of two archives.
 //!
 //! Argument: the seed of the inputs. Exit status: 0 measured, 1 the two sides differ, else it
 //! broke off.
+#![allow(unknown_lints, unexpected_cfgs)]
 
-mod archive;
 mod batch;
 mod check;
-#[allow(dead_code)]
-#[path = "../tests/differential/managed/declarations.rs"]
-mod declarations;
 mod inputs;
 mod measure;
 #[allow(dead_code)]
 #[path = "../tests/differential/random.rs"]
 mod random;
 mod sides;
+
+/// The archive.
+#[path = "."]
+mod after {
+    pub mod archive;
+    #[allow(dead_code)]
+    #[path = "../tests/differential/managed/declarations.rs"]
+    mod declarations;
+}
+
+/// An earlier archive, whose names have a prefix: bench/run writes these declarations.
+#[cfg(before)]
+#[path = "."]
+mod before {
+    pub mod archive;
+    #[allow(dead_code)]
+    #[path = "../target/bench/declarations.rs"]
+    mod declarations;
+}
 
 use std::process::ExitCode;
 
@@ -50,17 +67,18 @@ fn usage() -> ExitCode {
 }
 
 fn print_table(all: &[Inputs]) {
-    println!("| call | n | Rust, ns | archive, ns | Rust / archive |");
+    let [first, second] = measure::NAMES;
+    println!("| call | n | {first}, ns | {second}, ns | {first} / {second} |");
     println!("|---|---:|---:|---:|---:|");
     for call in CALLS {
         for inputs in all {
-            let [rust, archive] = measure::measure(inputs, call);
-            let ratio = rust / archive;
+            let [first, second] = measure::measure(inputs, call);
+            let ratio = first / second;
             let (name, n) = (call.name(), inputs.n);
             println!(
                 "| {name} | {n} | {} | {} | {ratio:.2} |",
-                nanoseconds(rust),
-                nanoseconds(archive)
+                nanoseconds(first),
+                nanoseconds(second)
             );
         }
     }

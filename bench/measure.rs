@@ -2,12 +2,9 @@
 
 use std::time::{Duration, Instant};
 
-use rlumod::api::LuMod;
-
-use crate::archive::Storage;
 use crate::batch::Batch;
 use crate::inputs::{Call, Case, Inputs};
-use crate::sides::run;
+use crate::sides::{run, First, Second};
 
 /// No batch is shorter than this, on either side.
 const BATCH: Duration = Duration::from_micros(20);
@@ -15,13 +12,18 @@ const BATCH: Duration = Duration::from_micros(20);
 const TIME: Duration = Duration::from_millis(1200);
 const ROUNDS: usize = 10;
 
+#[cfg(not(before))]
+pub const NAMES: [&str; 2] = ["Rust", "archive"];
+#[cfg(before)]
+pub const NAMES: [&str; 2] = ["before", "after"];
+
 type Run = fn(&Inputs, &Case, &mut Batch) -> Duration;
 const SIDES: [Run; 2] = [
-    |inputs, case, batch| run::<LuMod<f64>>(inputs, case, batch),
-    |inputs, case, batch| run::<Storage>(inputs, case, batch),
+    |inputs, case, batch| run::<First>(inputs, case, batch),
+    |inputs, case, batch| run::<Second>(inputs, case, batch),
 ];
 
-/// The nanoseconds of one call, the Rust's and the archive's: the least of the batches of each
+/// The nanoseconds of one call on the two sides: the least of the batches of each
 /// case, and the mean of the cases.
 pub fn measure(inputs: &Inputs, call: Call) -> [f64; 2] {
     let cases = inputs.cases(call);

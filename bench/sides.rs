@@ -1,5 +1,5 @@
-//! What the two sides, the published Rust and the archive, have in common. What is timed is the
-//! calls alone: storage is adopted before.
+//! What the two sides have in common: the published Rust, or an earlier archive, and the archive.
+//! What is timed is the calls alone: storage is adopted before.
 
 use std::time::{Duration, Instant};
 
@@ -7,6 +7,12 @@ use rlumod::api::{ColumnIndex, LuMod, RowIndex, Workspace};
 
 use crate::batch::Batch;
 use crate::inputs::{Call, Case, Inputs};
+
+#[cfg(not(before))]
+pub type First<'a> = LuMod<'a, f64>;
+#[cfg(before)]
+pub type First<'a> = crate::before::archive::Storage<'a>;
+pub type Second<'a> = crate::after::archive::Storage<'a>;
 
 /// Factors of one side. A call is given its case, and gives whether it was carried out and
 /// reported what it should.
