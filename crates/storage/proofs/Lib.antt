@@ -1,3 +1,4 @@
 pub mod Lengths
 pub mod Kept
 pub mod Places
+pub mod Frames

@@ -1,3 +1,4 @@
 pub mod Places
 pub mod Lengths
 pub mod Views
+pub mod Updated

@@ -4,7 +4,7 @@ use mathlib.Core.List.{List}
 use Prim.Native.Nat.{ℕ}
 use lib.ListN.{length, getD}
 use Rattle.numbers.specs.NumberForm.{NumberForm}
-use Rattle.machine.specs.Tables.{Table}
+use Rattle.machine.specs.Tables.{Table, State}
 use Rattle.storage.specs.Places.{lIndex, uIndex}
 
 module _ (N : NumberForm) where
@@ -15,6 +15,10 @@ module _ (N : NumberForm) where
 
   abbrev pub viewU : ℕ → List Value → Table Value
   viewU c u i j = getD u (uIndex c i j) absent
+
+  -- the state of dimension n that they hold
+  abbrev pub stateAt : ℕ → ℕ → List Value → List Value → State Value
+  stateAt c n l u = record { n = n; L = viewL c l; U = viewU c u }
 
   -- a buffer outside its free places: as long as before, and the same
   pub record Kept (Free : ℕ → Type 0) (old new : List Value) : Type 0 where

@@ -34,19 +34,21 @@ shared-slice-read-value c = omega arith
 
 returns : tie.Need-returns Inv-loop μ-loop
 returns c =
-    let start = c .before .before .before .before .before .before in
-    let loop = c .before .before .before .before .loop in
-    let h : loop .i < start .args .n = omega arith in zero-found (ieee binary64) (start .args .stride) (start .args .n) (loop .i) (c .before .before .u-index .result) (now (start .args .u)) (c .before .before .u-index .ensures .0) (loop .inv .1) h (c .if1 .taken)
+    let u = let place : tie.After-u-index Inv-loop μ-loop = search in place .u-index in
+    let loop = let l : tie.At-loop Inv-loop μ-loop = search in l .loop in
+    let start : tie.Start Inv-loop μ-loop = search in
+    let h : loop .i < start .args .n = omega arith in zero-found (ieee binary64) (start .args .stride) (start .args .n) (loop .i) (u .result) (now (start .args .u)) (u .ensures .0) (loop .inv .1) h (c .if1 .taken)
 
 is-finite-requires : tie.Need-is-finite-requires Inv-loop μ-loop
 is-finite-requires c κs = search needs
 
 returns-2 : tie.Need-returns-2 Inv-loop μ-loop
 returns-2 c =
-    let start = c .before .before .before .before .before .before .before .before in
-    let loop = c .before .before .before .before .before .before .loop in
-    let u-index = c .before .before .before .before .u-index in
-    let h : loop .i < start .args .n = omega arith in non-finite-found (ieee binary64) (start .args .stride) (start .args .n) (loop .i) (u-index .result) (now (start .args .u)) (u-index .ensures .0) (loop .inv .1) h (c .before .before .if1 .left) (sym (c .before .is-finite .ensures) ∙ not-true _ (c .if2 .taken))
+    let else1 = let place : tie.Else1 Inv-loop μ-loop = search in place .if1 .left in
+    let u-index = let u : tie.After-u-index Inv-loop μ-loop = search in u .u-index in
+    let loop = let l : tie.At-loop Inv-loop μ-loop = search in l .loop in
+    let start : tie.Start Inv-loop μ-loop = search in
+    let h : loop .i < start .args .n = omega arith in non-finite-found (ieee binary64) (start .args .stride) (start .args .n) (loop .i) (u-index .result) (now (start .args .u)) (u-index .ensures .0) (loop .inv .1) h else1 (sym (c .before .is-finite .ensures) ∙ not-true _ (c .if2 .taken))
 
 add-i : tie.Need-add-i Inv-loop μ-loop
 add-i c = omega arith
@@ -56,10 +58,11 @@ loop-less c = omega arith
 
 loop-again : tie.Need-loop-again Inv-loop μ-loop
 loop-again c =
-    let start = c .before .before .before .before .before .before .before .before in
-    let loop = c .before .before .before .before .before .before .loop in
-    let u-index = c .before .before .before .before .u-index in
-    (omega arith, sound-found (ieee binary64) (start .args .stride) (start .args .n) (loop .i) (u-index .result) (now (start .args .u)) (u-index .ensures .0) (loop .inv .1) (c .before .before .if1 .left) (sym (c .before .is-finite .ensures) ∙ not-false _ (c .if2 .left)))
+    let else1 = let place : tie.Else1 Inv-loop μ-loop = search in place .if1 .left in
+    let u-index = let u : tie.After-u-index Inv-loop μ-loop = search in u .u-index in
+    let loop = let l : tie.At-loop Inv-loop μ-loop = search in l .loop in
+    let start : tie.Start Inv-loop μ-loop = search in
+    (omega arith, sound-found (ieee binary64) (start .args .stride) (start .args .n) (loop .i) (u-index .result) (now (start .args .u)) (u-index .ensures .0) (loop .inv .1) else1 (sym (c .before .is-finite .ensures) ∙ not-false _ (c .if2 .left)))
 
 returns-3 : tie.Need-returns-3 Inv-loop μ-loop
 returns-3 c = let e : c .before .loop .i ≡ c .before .before .before .args .n = omega arith in sym (rw e at (c .before .loop .inv .1))

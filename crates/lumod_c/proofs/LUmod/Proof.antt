@@ -14,6 +14,19 @@ use Rattle.lumod_c.proofs.Tests.{passed, update-room, outcome-11, outco
 use Rattle.lumod_c.proofs.LUmod.Statement.{statement}
 use Rattle.lumod_c.proofs.LUmod.Tie as tie
 
+-- the places of the code up to the test for room, found by their types
+record Way : Type 0 where
+  start : tie.Start
+  size : tie.After-size
+  size2 : tie.After-size2
+  over : tie.After-passed-over
+  not-over : tie.Else1
+  stride : tie.After-stride
+  room : tie.After-update-lacks-room
+
+way : tie.Else2 → Way
+way c = search
+
 size-requires : tie.Need-size-requires
 size-requires c κs = search needs
 
@@ -25,10 +38,11 @@ passed-over-requires c κs = search needs
 
 returns : tie.Need-returns
 returns c =
-    let start = c .before .before .before .before .before .before .before .before .before in
-    let after-size = c .before .before .before .size in
-    let m : after-size .result ≡ sizeOf (start .args .mode) = after-size .ensures .0 ∙ ap sizeOf (toZ-ofZ (start .fits .mode)) in
-    let e : c .before .before .size2 .result ≡ sizeOf (start .args .n) = c .before .before .size2 .ensures .0 ∙ ap sizeOf (toZ-ofZ (start .fits .n)) in
+    let s : tie.After-size2 = search in
+    let after-size : tie.After-size = search in
+    let start : tie.Start = search in
+    let m : after-size .size .result ≡ sizeOf (start .args .mode) = after-size .size .ensures .0 ∙ ap sizeOf (toZ-ofZ (start .fits .mode)) in
+    let e : s .size2 .result ≡ sizeOf (start .args .n) = s .size2 .ensures .0 ∙ ap sizeOf (toZ-ofZ (start .fits .n)) in
     let p = (λ t. passedOver (sym m t) (sym e t) (sym (toZ-ofZ (start .fits .krow)) t) (sym (toZ-ofZ (start .fits .kcol)) t)) ∙ sym (c .before .passed-over .ensures) ∙ c .if1 .taken in
     outcome-11 _
     (updateLacksRoom (sizeOf (start .args .n)) (strideOf (start .args .maxmod)) (length (now (start .args .l))) (length (now (start .args .u))) (length (now (start .args .y))) (length (now (start .args .z))) (length (now (start .args .w))))
@@ -42,13 +56,16 @@ update-lacks-room-requires c κs = search needs
 
 returns-2 : tie.Need-returns-2
 returns-2 c =
-    let start = c .before .before .before .before .before .before .before .before .before .before .before .before in
-    let after-size = c .before .before .before .before .before .before .size in
-    let size2 = c .before .before .before .before .before .size2 in
-    let m : after-size .result ≡ sizeOf (start .args .mode) = after-size .ensures .0 ∙ ap sizeOf (toZ-ofZ (start .fits .mode)) in
-    let e : size2 .result ≡ sizeOf (start .args .n) = size2 .ensures .0 ∙ ap sizeOf (toZ-ofZ (start .fits .n)) in
-    let f : c .before .before .stride .result ≡ strideOf (start .args .maxmod) = c .before .before .stride .ensures .0 ∙ ap strideOf (toZ-ofZ (start .fits .maxmod)) in
-    let p = (λ t. passedOver (sym m t) (sym e t) (sym (toZ-ofZ (start .fits .krow)) t) (sym (toZ-ofZ (start .fits .kcol)) t)) ∙ sym (c .before .before .before .before .passed-over .ensures) ∙ c .before .before .before .if1 .left in
+    let s : tie.After-stride = search in
+    let else1 : tie.Else1 = search in
+    let o : tie.After-passed-over = search in
+    let size2 : tie.After-size2 = search in
+    let after-size : tie.After-size = search in
+    let start : tie.Start = search in
+    let m : after-size .size .result ≡ sizeOf (start .args .mode) = after-size .size .ensures .0 ∙ ap sizeOf (toZ-ofZ (start .fits .mode)) in
+    let e : size2 .size2 .result ≡ sizeOf (start .args .n) = size2 .size2 .ensures .0 ∙ ap sizeOf (toZ-ofZ (start .fits .n)) in
+    let f : s .stride .result ≡ strideOf (start .args .maxmod) = s .stride .ensures .0 ∙ ap strideOf (toZ-ofZ (start .fits .maxmod)) in
+    let p = (λ t. passedOver (sym m t) (sym e t) (sym (toZ-ofZ (start .fits .krow)) t) (sym (toZ-ofZ (start .fits .kcol)) t)) ∙ sym (o .passed-over .ensures) ∙ else1 .if1 .left in
     outcome-12 _ _ p
     ((λ t. updateLacksRoom (sym e t) (sym f t) (length (now (start .args .l))) (length (now (start .args .u))) (length (now (start .args .y))) (length (now (start .args .z))) (length (now (start .args .w)))) ∙ sym (c .before .update-lacks-room .ensures) ∙ c .if2 .taken)
     (untouched (ieee binary64))
@@ -61,14 +78,20 @@ size-requires-4 c κs = search needs
 
 perform-requires : tie.Need-perform-requires
 perform-requires c κs =
-    let start = c .before .before .before .before .before .before .before .before .before .before .before .before .before .before .before .before .before .before .before in
-    let size3 = c .before .before .before .before .before .before .size3 in
-    let size4 = c .before .before .before .before .before .size4 in
+    let size4 = let after-size4 : tie.After-size4 = search in after-size4 .size4 in
+    let size3 = let after-size3 : tie.After-size3 = search in after-size3 .size3 in
+    let fits = let place : tie.Else2 = search in place .if2 .left in
+    let u = let place : tie.After-update-lacks-room = search in place .update-lacks-room .ensures in
+    let b = let after-stride : tie.After-stride = search in after-stride .stride .ensures .1 in
+    let not-over = let place : tie.Else1 = search in place .if1 .left in
+    let p = let place : tie.After-passed-over = search in place .passed-over .ensures in
+    let after-size2 = let place : tie.After-size2 = search in place .size2 .result in
+    let after-size = let place : tie.After-size = search in place .size .result in
+    let start : tie.Start = search in
     let r : size3 .result ≡ sizeOf (start .args .krow) = size3 .ensures .0 ∙ ap sizeOf (toZ-ofZ (start .fits .krow)) in
     let k : size4 .result ≡ sizeOf (start .args .kcol) = size4 .ensures .0 ∙ ap sizeOf (toZ-ofZ (start .fits .kcol)) in
-    let h = passed _ _ _ _ ((λ t. passedOver (c .before .before .before .before .before .before .before .before .before .before .before .before .before .size .result) (c .before .before .before .before .before .before .before .before .before .before .before .before .size2 .result) (sym (toZ-ofZ (start .fits .krow)) t) (sym (toZ-ofZ (start .fits .kcol)) t)) ∙ sym (c .before .before .before .before .before .before .before .before .before .before .before .passed-over .ensures) ∙ c .before .before .before .before .before .before .before .before .before .before .if1 .left) in
-    let s = update-room _ _ _ _ _ _ _ (sym (c .before .before .before .before .before .before .before .before .update-lacks-room .ensures) ∙ c .before .before .before .before .before .before .before .if2 .left) in
-    let b = c .before .before .before .before .before .before .before .before .before .stride .ensures .1 in (
+    let h = passed _ _ _ _ ((λ t. passedOver after-size after-size2 (sym (toZ-ofZ (start .fits .krow)) t) (sym (toZ-ofZ (start .fits .kcol)) t)) ∙ sym p ∙ not-over) in
+    let s = update-room _ _ _ _ _ _ _ (sym u ∙ fits) in (
       record { stride = omega arith; dimension = s .0; l-long = s .1; u-long = s .2 },
       (s .3, (s .4, (s .5, (h .dimension, (h .greatest, (h .least, (λ q. omega (arith, r, h .row q), (λ q. omega (arith, k, h .column q), (λ q. omega (arith, k, h .column-4 q)))))))))),
     )
@@ -89,22 +112,23 @@ same-length-5 : tie.Need-same-length-5
 same-length-5 c = search needs
 
 returns-3 : tie.Need-returns-3
+unfolding way
 returns-3 c =
-    let start = c .before .before .before .before .before .before .before .before .before .before .before .before .before .before .before .before .before .before .before .before .before .before .before .before .before .before .before .before .before .before in
-    let after-size = c .before .before .before .before .before .before .before .before .before .before .before .before .before .before .before .before .before .before .before .before .before .before .before .before .size in
-    let size2 = c .before .before .before .before .before .before .before .before .before .before .before .before .before .before .before .before .before .before .before .before .before .before .before .size2 in
-    let after-stride = c .before .before .before .before .before .before .before .before .before .before .before .before .before .before .before .before .before .before .before .before .stride in
-    let size3 = c .before .before .before .before .before .before .before .before .before .before .before .before .before .before .before .before .before .size3 in
-    let size4 = c .before .before .before .before .before .before .before .before .before .before .before .before .before .before .before .before .size4 in
-    let m : after-size .result ≡ sizeOf (start .args .mode) = after-size .ensures .0 ∙ ap sizeOf (toZ-ofZ (start .fits .mode)) in
-    let e : size2 .result ≡ sizeOf (start .args .n) = size2 .ensures .0 ∙ ap sizeOf (toZ-ofZ (start .fits .n)) in
-    let f : after-stride .result ≡ strideOf (start .args .maxmod) = after-stride .ensures .0 ∙ ap strideOf (toZ-ofZ (start .fits .maxmod)) in
-    let r : size3 .result ≡ sizeOf (start .args .krow) = size3 .ensures .0 ∙ ap sizeOf (toZ-ofZ (start .fits .krow)) in
-    let k : size4 .result ≡ sizeOf (start .args .kcol) = size4 .ensures .0 ∙ ap sizeOf (toZ-ofZ (start .fits .kcol)) in
-    let p = (λ t. passedOver (sym m t) (sym e t) (sym (toZ-ofZ (start .fits .krow)) t) (sym (toZ-ofZ (start .fits .kcol)) t)) ∙ sym (c .before .before .before .before .before .before .before .before .before .before .before .before .before .before .before .before .before .before .before .before .before .before .passed-over .ensures) ∙ c .before .before .before .before .before .before .before .before .before .before .before .before .before .before .before .before .before .before .before .before .before .if1 .left in
+    let after-perform : tie.After-perform = search in
+    let size4 : tie.After-size4 = search in
+    let size3 : tie.After-size3 = search in
+    let else2 : tie.Else2 = search in
+    let w = way else2 in
+    let start = w .start in
+    let m : w .size .size .result ≡ sizeOf (start .args .mode) = w .size .size .ensures .0 ∙ ap sizeOf (toZ-ofZ (start .fits .mode)) in
+    let e : w .size2 .size2 .result ≡ sizeOf (start .args .n) = w .size2 .size2 .ensures .0 ∙ ap sizeOf (toZ-ofZ (start .fits .n)) in
+    let f : w .stride .stride .result ≡ strideOf (start .args .maxmod) = w .stride .stride .ensures .0 ∙ ap strideOf (toZ-ofZ (start .fits .maxmod)) in
+    let r : size3 .size3 .result ≡ sizeOf (start .args .krow) = size3 .size3 .ensures .0 ∙ ap sizeOf (toZ-ofZ (start .fits .krow)) in
+    let k : size4 .size4 .result ≡ sizeOf (start .args .kcol) = size4 .size4 .ensures .0 ∙ ap sizeOf (toZ-ofZ (start .fits .kcol)) in
+    let p = (λ t. passedOver (sym m t) (sym e t) (sym (toZ-ofZ (start .fits .krow)) t) (sym (toZ-ofZ (start .fits .kcol)) t)) ∙ sym (w .over .passed-over .ensures) ∙ w .not-over .if1 .left in
     outcome-0 _ _ p
-    ((λ t. updateLacksRoom (sym e t) (sym f t) (length (now (start .args .l))) (length (now (start .args .u))) (length (now (start .args .y))) (length (now (start .args .z))) (length (now (start .args .w)))) ∙ sym (c .before .before .before .before .before .before .before .before .before .before .before .before .before .before .before .before .before .before .before .update-lacks-room .ensures) ∙ c .before .before .before .before .before .before .before .before .before .before .before .before .before .before .before .before .before .before .if2 .left)
-    (rw (← m, ← e, ← f, ← r, ← k) (c .before .before .before .before .before .before .before .before .before .before .perform .ensures))
+    ((λ t. updateLacksRoom (sym e t) (sym f t) (length (now (start .args .l))) (length (now (start .args .u))) (length (now (start .args .y))) (length (now (start .args .z))) (length (now (start .args .w)))) ∙ sym (w .room .update-lacks-room .ensures) ∙ else2 .if2 .left)
+    (rw (← m, ← e, ← f, ← r, ← k) (after-perform .perform .ensures))
 
 pub LUmod-spec : {M : Type 1} → statement M
 LUmod-spec =

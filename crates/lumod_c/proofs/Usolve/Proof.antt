@@ -34,11 +34,13 @@ solve-lacks-room-requires c κs = search needs
 
 returns-2 : tie.Need-returns-2
 returns-2 c =
-    let start = c .before .before .before .before .before .before .before in
-    let after-size = c .before .before .before .before .size in
-    let e : after-size .result ≡ sizeOf (start .args .n) = after-size .ensures .0 ∙ ap sizeOf (toZ-ofZ (start .fits .n)) in
-    let f : c .before .before .stride .result ≡ strideOf (start .args .maxmod) = c .before .before .stride .ensures .0 ∙ ap strideOf (toZ-ofZ (start .fits .maxmod)) in
-    outcome-12 _ _ (ne-eqb _ 0 (λ h. c .before .before .before .if1 .left (e ∙ h)))
+    let s : tie.After-stride = search in
+    let else1 : tie.Else1 = search in
+    let after-size : tie.After-size = search in
+    let start : tie.Start = search in
+    let e : after-size .size .result ≡ sizeOf (start .args .n) = after-size .size .ensures .0 ∙ ap sizeOf (toZ-ofZ (start .fits .n)) in
+    let f : s .stride .result ≡ strideOf (start .args .maxmod) = s .stride .ensures .0 ∙ ap strideOf (toZ-ofZ (start .fits .maxmod)) in
+    outcome-12 _ _ (ne-eqb _ 0 (λ h. else1 .if1 .left (e ∙ h)))
     ((λ t. solveLacksRoom (sym e t) (sym f t) (length (now (start .args .u))) (length (now (start .args .y)))) ∙ sym (c .before .solve-lacks-room .ensures) ∙ c .if2 .taken) refl
 
 size-requires-2 : tie.Need-size-requires-2
@@ -61,32 +63,42 @@ same-length c = search needs
 
 returns-3 : tie.Need-returns-3
 returns-3 c =
-    let start = c .before .before .before .before .before .before .before .before .before .before .before .before .before in
-    let after-size = c .before .before .before .before .before .before .before .before .before .before .size in
-    let after-stride = c .before .before .before .before .before .before .before .before .stride in
-    let size2 = c .before .before .before .before .before .size2 in
-    let e : after-size .result ≡ sizeOf (start .args .n) = after-size .ensures .0 ∙ ap sizeOf (toZ-ofZ (start .fits .n)) in
-    let f : after-stride .result ≡ strideOf (start .args .maxmod) = after-stride .ensures .0 ∙ ap strideOf (toZ-ofZ (start .fits .maxmod)) in
-    let g : size2 .result ≡ sizeOf (start .args .mode) = size2 .ensures .0 ∙ ap sizeOf (toZ-ofZ (start .fits .mode)) in
-    outcome-0 _ _ (ne-eqb _ 0 (λ h. c .before .before .before .before .before .before .before .before .before .if1 .left (e ∙ h)))
-    ((λ t. solveLacksRoom (sym e t) (sym f t) (length (now (start .args .u))) (length (now (start .args .y)))) ∙ sym (c .before .before .before .before .before .before .before .solve-lacks-room .ensures) ∙ c .before .before .before .before .before .before .if2 .left)
-    (rw (← e, ← f, ← g, plain-solve (ieee binary64) _ _ _ _ _ (c .before .before .before .before .if3 .taken)) (c .before .before .back-substitute .ensures))
+    let b : tie.After-back-substitute = search in
+    let then3 : tie.Then3 = search in
+    let size2 : tie.After-size2 = search in
+    let else2 : tie.Else2 = search in
+    let s : tie.After-solve-lacks-room = search in
+    let after-stride : tie.After-stride = search in
+    let else1 : tie.Else1 = search in
+    let after-size : tie.After-size = search in
+    let start : tie.Start = search in
+    let e : after-size .size .result ≡ sizeOf (start .args .n) = after-size .size .ensures .0 ∙ ap sizeOf (toZ-ofZ (start .fits .n)) in
+    let f : after-stride .stride .result ≡ strideOf (start .args .maxmod) = after-stride .stride .ensures .0 ∙ ap strideOf (toZ-ofZ (start .fits .maxmod)) in
+    let g : size2 .size2 .result ≡ sizeOf (start .args .mode) = size2 .size2 .ensures .0 ∙ ap sizeOf (toZ-ofZ (start .fits .mode)) in
+    outcome-0 _ _ (ne-eqb _ 0 (λ h. else1 .if1 .left (e ∙ h)))
+    ((λ t. solveLacksRoom (sym e t) (sym f t) (length (now (start .args .u))) (length (now (start .args .y)))) ∙ sym (s .solve-lacks-room .ensures) ∙ else2 .if2 .left)
+    (rw (← e, ← f, ← g, plain-solve (ieee binary64) _ _ _ _ _ (then3 .if3 .taken)) (b .back-substitute .ensures))
 
 same-length-2 : tie.Need-same-length-2
 same-length-2 c = search needs
 
 returns-4 : tie.Need-returns-4
 returns-4 c =
-    let start = c .before .before .before .before .before .before .before .before .before .before .before .before .before in
-    let after-size = c .before .before .before .before .before .before .before .before .before .before .size in
-    let after-stride = c .before .before .before .before .before .before .before .before .stride in
-    let size2 = c .before .before .before .before .before .size2 in
-    let e : after-size .result ≡ sizeOf (start .args .n) = after-size .ensures .0 ∙ ap sizeOf (toZ-ofZ (start .fits .n)) in
-    let f : after-stride .result ≡ strideOf (start .args .maxmod) = after-stride .ensures .0 ∙ ap strideOf (toZ-ofZ (start .fits .maxmod)) in
-    let g : size2 .result ≡ sizeOf (start .args .mode) = size2 .ensures .0 ∙ ap sizeOf (toZ-ofZ (start .fits .mode)) in
-    outcome-0 _ _ (ne-eqb _ 0 (λ h. c .before .before .before .before .before .before .before .before .before .if1 .left (e ∙ h)))
-    ((λ t. solveLacksRoom (sym e t) (sym f t) (length (now (start .args .u))) (length (now (start .args .y)))) ∙ sym (c .before .before .before .before .before .before .before .solve-lacks-room .ensures) ∙ c .before .before .before .before .before .before .if2 .left)
-    (rw (← e, ← f, ← g, transposed-solve (ieee binary64) _ _ _ _ _ (c .before .before .before .before .if3 .left)) (c .before .before .forward-substitute .ensures))
+    let s : tie.After-forward-substitute = search in
+    let else3 : tie.Else3 = search in
+    let size2 : tie.After-size2 = search in
+    let else2 : tie.Else2 = search in
+    let l : tie.After-solve-lacks-room = search in
+    let after-stride : tie.After-stride = search in
+    let else1 : tie.Else1 = search in
+    let after-size : tie.After-size = search in
+    let start : tie.Start = search in
+    let e : after-size .size .result ≡ sizeOf (start .args .n) = after-size .size .ensures .0 ∙ ap sizeOf (toZ-ofZ (start .fits .n)) in
+    let f : after-stride .stride .result ≡ strideOf (start .args .maxmod) = after-stride .stride .ensures .0 ∙ ap strideOf (toZ-ofZ (start .fits .maxmod)) in
+    let g : size2 .size2 .result ≡ sizeOf (start .args .mode) = size2 .size2 .ensures .0 ∙ ap sizeOf (toZ-ofZ (start .fits .mode)) in
+    outcome-0 _ _ (ne-eqb _ 0 (λ h. else1 .if1 .left (e ∙ h)))
+    ((λ t. solveLacksRoom (sym e t) (sym f t) (length (now (start .args .u))) (length (now (start .args .y)))) ∙ sym (l .solve-lacks-room .ensures) ∙ else2 .if2 .left)
+    (rw (← e, ← f, ← g, transposed-solve (ieee binary64) _ _ _ _ _ (else3 .if3 .left)) (s .forward-substitute .ensures))
 
 pub Usolve-spec : {M : Type 1} → statement M
 Usolve-spec =

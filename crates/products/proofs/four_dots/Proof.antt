@@ -70,7 +70,9 @@ loop-less : tie.Need-loop-less Inv-loop μ-loop
 loop-less c = omega arith
 
 loop-again : tie.Need-loop-again Inv-loop μ-loop
-loop-again c = let h = c .before .before .before .before .before .before .loop .inv in (omega arith, (sum-more (ieee binary64) _ (h .1 .0), (sum-more (ieee binary64) _ (h .1 .1 .0), (sum-more (ieee binary64) _ (h .1 .1 .1 .0), sum-more (ieee binary64) _ (h .1 .1 .1 .1)))))
+loop-again c =
+    let h = let l : tie.At-loop Inv-loop μ-loop = search in l .loop .inv in
+    (omega arith, (sum-more (ieee binary64) _ (h .1 .0), (sum-more (ieee binary64) _ (h .1 .1 .0), (sum-more (ieee binary64) _ (h .1 .1 .1 .0), sum-more (ieee binary64) _ (h .1 .1 .1 .1)))))
 
 returns : tie.Need-returns Inv-loop μ-loop
 returns c = let e : c .before .loop .k ≡ c .before .before .args .count = omega arith in rw e at (c .before .loop .inv .1)

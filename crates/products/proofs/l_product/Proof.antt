@@ -17,7 +17,11 @@ same-length : tie.Need-same-length
 same-length c = search needs
 
 returns : tie.Need-returns
-returns c = let a = c .before .before .before .before .before .before .before .args in product-from-0 (ieee binary64) (a .n) (product (ieee binary64) (a .n)) (product-same (ieee binary64) (a .n)) (viewL (ieee binary64) (a .stride) (now (a .l))) (now (a .input)) (c .before .before .l-product-from .ensures)
+returns c =
+    let l : tie.After-l-product-from = search in
+    let start : tie.Start = search in
+    let a = start .args in
+    product-from-0 (ieee binary64) (a .n) (product (ieee binary64) (a .n)) (product-same (ieee binary64) (a .n)) (viewL (ieee binary64) (a .stride) (now (a .l))) (now (a .input)) (l .l-product-from .ensures)
 
 pub l-product-spec : {M : Type 1} → statement M
 l-product-spec = tie.close (tie.spec l-product-from-requires same-length returns)

@@ -31,11 +31,13 @@ loop-holds : tie.Need-loop-holds Inv-loop μ-loop
 loop-holds c = let done = c .before .before .products-by-fours .ensures in (done .0, record { value = done .1 .value; kept = kept-all (ieee binary64) })
 
 mul-dot : tie.Need-mul-dot Inv-loop μ-loop
-mul-dot c = omega (arith, row-fits (c .before .before .before .before .before .before .before .before .before .args .stride) (c .before .loop .i) (omega arith) (omega arith))
+mul-dot c =
+    let stride = let start : tie.Start Inv-loop μ-loop = search in start .args .stride in
+    omega (arith, row-fits stride (c .before .loop .i) (omega arith) (omega arith))
 
 dot-requires : tie.Need-dot-requires Inv-loop μ-loop
 dot-requires c κs =
-    let start = c .before .before .before .before .before .before .before .before .before in
+    let start : tie.Start Inv-loop μ-loop = search in
     let h = row-before (start .args .stride) (c .before .loop .i) (start .args .stride) (omega arith) in
     (omega arith, omega arith)
 
@@ -53,14 +55,18 @@ loop-less c = omega arith
 
 loop-again : tie.Need-loop-again Inv-loop μ-loop
 loop-again c =
-    let a = c .before .before .before .before .before .before .before .before .before .before .args in
-    (omega arith, written-more (ieee binary64) (apart (ieee binary64) _) (c .before .before .loop .inv .1) (omega arith) (row-product (ieee binary64) (a .stride) (a .n) (c .before .before .loop .i) _ (a .start) (now (a .l)) (now (a .input)) refl (c .dot .ensures)))
+    let l = let place : tie.At-loop Inv-loop μ-loop = search in place .loop in
+    let a = let start : tie.Start Inv-loop μ-loop = search in start .args in
+    (omega arith, written-more (ieee binary64) (apart (ieee binary64) _) (l .inv .1) (omega arith) (row-product (ieee binary64) (a .stride) (a .n) (l .i) _ (a .start) (now (a .l)) (now (a .input)) refl (c .dot .ensures)))
 
 same-length : tie.Need-same-length Inv-loop μ-loop
 same-length c = c .before .loop .inv .1 .kept .long ∙ c .before .before .before .before .products-by-fours .ensures .1 .kept .long
 
 returns : tie.Need-returns Inv-loop μ-loop
-returns c = let e : c .before .loop .i ≡ c .before .before .before .before .before .before .before .before .before .args .n = omega arith in written-further (ieee binary64) (c .before .before .before .before .products-by-fours .ensures .0) (c .before .before .before .before .products-by-fours .ensures .1) (rw e at (c .before .loop .inv .1))
+returns c =
+    let p = let place : tie.After-products-by-fours Inv-loop μ-loop = search in place .products-by-fours .ensures in
+    let n = let start : tie.Start Inv-loop μ-loop = search in start .args .n in
+    let e : c .before .loop .i ≡ n = omega arith in written-further (ieee binary64) (p .0) (p .1) (rw e at (c .before .loop .inv .1))
 
 pub l-product-from-spec : {M : Type 1} → statement M
 l-product-from-spec =

@@ -17,7 +17,11 @@ same-length : tie.Need-same-length
 same-length c = search needs
 
 returns : tie.Need-returns
-returns c = let a = c .before .before .before .before .before .before .before .args in product-from-0 (ieee binary64) (a .n) (productTransposed (ieee binary64) (a .n)) (product-transposed-same (ieee binary64) (a .n)) (viewL (ieee binary64) (a .stride) (now (a .l))) (now (a .input)) (c .before .before .l-product-transposed-from .ensures)
+returns c =
+    let l : tie.After-l-product-transposed-from = search in
+    let start : tie.Start = search in
+    let a = start .args in
+    product-from-0 (ieee binary64) (a .n) (productTransposed (ieee binary64) (a .n)) (product-transposed-same (ieee binary64) (a .n)) (viewL (ieee binary64) (a .stride) (now (a .l))) (now (a .input)) (l .l-product-transposed-from .ensures)
 
 pub l-product-transposed-spec : {M : Type 1} → statement M
 l-product-transposed-spec =

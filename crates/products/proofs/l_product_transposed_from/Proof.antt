@@ -28,7 +28,10 @@ loop-holds : tie.Need-loop-holds Inv-loop μ-loop
 loop-holds c = let f = written-from-0 (ieee binary64) (c .before .before .fill .ensures) in (omega arith, record { value = λ k h. f .value k h ∙ sum-none (ieee binary64) _; kept = kept-all (ieee binary64) })
 
 mul-add-multiple : tie.Need-mul-add-multiple Inv-loop μ-loop
-mul-add-multiple c = omega (arith, row-fits (c .before .before .before .before .before .before .before .before .before .before .args .stride) (c .before .before .loop .j) (omega arith) (omega arith))
+mul-add-multiple c =
+    let j = let place : tie.At-loop Inv-loop μ-loop = search in place .loop .j in
+    let stride = let start : tie.Start Inv-loop μ-loop = search in start .args .stride in
+    omega (arith, row-fits stride j (omega arith) (omega arith))
 
 add-add-multiple : tie.Need-add-add-multiple Inv-loop μ-loop
 add-add-multiple c = omega arith
@@ -41,8 +44,8 @@ shared-slice-read-add-multiple c = omega arith
 
 add-multiple-requires : tie.Need-add-multiple-requires Inv-loop μ-loop
 add-multiple-requires c κs =
-    let start = c .before .before .before .before .before .before .before .before .before .before .before in
-    let loop = c .before .before .before .loop in
+    let loop = let l : tie.At-loop Inv-loop μ-loop = search in l .loop in
+    let start : tie.Start Inv-loop μ-loop = search in
     let h = row-before (start .args .stride) (loop .j) (start .args .stride) (omega arith) in
     let k = loop .inv .1 .kept .long in
     (omega arith, omega arith)
@@ -55,19 +58,21 @@ loop-less c = omega arith
 
 loop-again : tie.Need-loop-again Inv-loop μ-loop
 loop-again c =
-    let loop = c .before .before .before .before .before .before .loop in
-    let a = c .before .before .before .before .before .before .before .before .before .before .before .before .before .before .args in
-    (omega arith, row-sums-more (ieee binary64) (a .stride) (a .n) (loop .j) (now (a .l)) (entriesFrom (ieee binary64) (a .start) (now (a .input))) refl (loop .inv .1) (c .before .before .add-multiple .ensures))
+    let m = let place : tie.After-add-multiple Inv-loop μ-loop = search in place .add-multiple .ensures in
+    let loop = let l : tie.At-loop Inv-loop μ-loop = search in l .loop in
+    let a = let start : tie.Start Inv-loop μ-loop = search in start .args in
+    (omega arith, row-sums-more (ieee binary64) (a .stride) (a .n) (loop .j) (now (a .l)) (entriesFrom (ieee binary64) (a .start) (now (a .input))) refl (loop .inv .1) m)
 
 same-length : tie.Need-same-length Inv-loop μ-loop
 same-length c = c .before .loop .inv .1 .kept .long ∙ c .before .before .before .before .fill .ensures .kept .long
 
 returns : tie.Need-returns Inv-loop μ-loop
 returns c =
-    let a = c .before .before .before .before .before .before .before .before .before .args in
+    let f = let place : tie.After-fill Inv-loop μ-loop = search in place .fill .ensures in
+    let a = let start : tie.Start Inv-loop μ-loop = search in start .args in
     let e : c .before .loop .j ≡ a .n = omega arith in
     row-sums-all (ieee binary64) (a .stride) (a .n) (now (a .l)) (entriesFrom (ieee binary64) (a .start) (now (a .input)))
-    (written-over (ieee binary64) (written-from-0 (ieee binary64) (c .before .before .before .before .fill .ensures)) (rw e at (c .before .loop .inv .1)))
+    (written-over (ieee binary64) (written-from-0 (ieee binary64) f) (rw e at (c .before .loop .inv .1)))
 
 pub l-product-transposed-from-spec : {M : Type 1} → statement M
 l-product-transposed-from-spec =

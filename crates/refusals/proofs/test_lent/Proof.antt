@@ -24,11 +24,19 @@ returns-2 c = rw (passed-none (c .before .before .before .before .test-storage .
 
 returns-3 : tie.Need-returns-3
 unfolding workspaceTests
-returns-3 c = rw (passed-none (c .before .before .before .before .before .before .test-storage .ensures) (c .before .before .before .before .enum-told .given .1), eq-eqb _ _ (c .before .before .if1 .left), ne-eqb _ _ (c .if2 .taken))
+returns-3 c =
+    let else1 : tie.Else1 = search in
+    let e : tie.After-enum-told = search in
+    let t : tie.After-test-storage = search in
+    rw (passed-none (t .test-storage .ensures) (e .enum-told .given .1), eq-eqb _ _ (else1 .if1 .left), ne-eqb _ _ (c .if2 .taken))
 
 returns-4 : tie.Need-returns-4
 unfolding workspaceTests
-returns-4 c = rw (passed-none (c .before .before .before .before .before .before .test-storage .ensures) (c .before .before .before .before .enum-told .given .1), eq-eqb _ _ (c .before .before .if1 .left), eq-eqb _ _ (c .if2 .left))
+returns-4 c =
+    let else1 : tie.Else1 = search in
+    let e : tie.After-enum-told = search in
+    let t : tie.After-test-storage = search in
+    rw (passed-none (t .test-storage .ensures) (e .enum-told .given .1), eq-eqb _ _ (else1 .if1 .left), eq-eqb _ _ (c .if2 .left))
 
 pub test-lent-spec : {M : Type 1} → statement M
 test-lent-spec =

@@ -29,10 +29,26 @@ returns-4 : tie.Need-returns-4
 returns-4 c = rw (passed-none (c .before .before .before .before .before .test-lent .ensures) (c .before .before .before .enum-told .given .1), ne-eqb _ _ (c .before .before .if1 .left), eq-eqb _ _ (c .before .if2 .left), ne-eqb _ _ (c .if3 .taken))
 
 returns-5 : tie.Need-returns-5
-returns-5 c = let a = c .before .before .before .before .before .before .before .before .args in let h : a .lent .y < a .n + 1 = omega (arith, c .if4 .taken) in rw (passed-none (c .before .before .before .before .before .before .before .test-lent .ensures) (c .before .before .before .before .before .enum-told .given .1), ne-eqb _ _ (c .before .before .before .before .if1 .left), eq-eqb _ _ (c .before .before .before .if2 .left), eq-eqb _ _ (c .before .before .if3 .left), lt-ltb _ _ h)
+returns-5 c =
+    let else3 : tie.Else3 = search in
+    let else2 : tie.Else2 = search in
+    let else1 : tie.Else1 = search in
+    let e : tie.After-enum-told = search in
+    let t : tie.After-test-lent = search in
+    let start : tie.Start = search in
+    let a = start .args in
+    let h : a .lent .y < a .n + 1 = omega (arith, c .if4 .taken) in rw (passed-none (t .test-lent .ensures) (e .enum-told .given .1), ne-eqb _ _ (else1 .if1 .left), eq-eqb _ _ (else2 .if2 .left), eq-eqb _ _ (else3 .if3 .left), lt-ltb _ _ h)
 
 returns-6 : tie.Need-returns-6
-returns-6 c = let a = c .before .before .before .before .before .before .before .before .args in let h : a .n + 1 ≤ a .lent .y = omega (arith, c .if4 .left) in rw (passed-none (c .before .before .before .before .before .before .before .test-lent .ensures) (c .before .before .before .before .before .enum-told .given .1), ne-eqb _ _ (c .before .before .before .before .if1 .left), eq-eqb _ _ (c .before .before .before .if2 .left), eq-eqb _ _ (c .before .before .if3 .left), le-ltb _ _ h)
+returns-6 c =
+    let else3 : tie.Else3 = search in
+    let else2 : tie.Else2 = search in
+    let else1 : tie.Else1 = search in
+    let e : tie.After-enum-told = search in
+    let t : tie.After-test-lent = search in
+    let start : tie.Start = search in
+    let a = start .args in
+    let h : a .n + 1 ≤ a .lent .y = omega (arith, c .if4 .left) in rw (passed-none (t .test-lent .ensures) (e .enum-told .given .1), ne-eqb _ _ (else1 .if1 .left), eq-eqb _ _ (else2 .if2 .left), eq-eqb _ _ (else3 .if3 .left), le-ltb _ _ h)
 
 pub test-push-spec : {M : Type 1} → statement M
 test-push-spec =

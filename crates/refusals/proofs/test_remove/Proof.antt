@@ -24,10 +24,20 @@ returns-3 : tie.Need-returns-3
 returns-3 c = rw (passed-none (c .before .before .before .before .test-lent .ensures) (c .before .before .enum-told .given .1), lt-leb _ _ (c .before .if1 .left), le-leb _ _ (c .if2 .taken))
 
 returns-4 : tie.Need-returns-4
-returns-4 c = rw (passed-none (c .before .before .before .before .before .before .test-lent .ensures) (c .before .before .before .before .enum-told .given .1), lt-leb _ _ (c .before .before .before .if1 .left), lt-leb _ _ (c .before .before .if2 .left), lt-ltb _ _ (c .if3 .taken))
+returns-4 c =
+    let else2 : tie.Else2 = search in
+    let else1 : tie.Else1 = search in
+    let e : tie.After-enum-told = search in
+    let t : tie.After-test-lent = search in
+    rw (passed-none (t .test-lent .ensures) (e .enum-told .given .1), lt-leb _ _ (else1 .if1 .left), lt-leb _ _ (else2 .if2 .left), lt-ltb _ _ (c .if3 .taken))
 
 returns-5 : tie.Need-returns-5
-returns-5 c = rw (passed-none (c .before .before .before .before .before .before .test-lent .ensures) (c .before .before .before .before .enum-told .given .1), lt-leb _ _ (c .before .before .before .if1 .left), lt-leb _ _ (c .before .before .if2 .left), le-ltb _ _ (c .if3 .left))
+returns-5 c =
+    let else2 : tie.Else2 = search in
+    let else1 : tie.Else1 = search in
+    let e : tie.After-enum-told = search in
+    let t : tie.After-test-lent = search in
+    rw (passed-none (t .test-lent .ensures) (e .enum-told .given .1), lt-leb _ _ (else1 .if1 .left), lt-leb _ _ (else2 .if2 .left), le-ltb _ _ (c .if3 .left))
 
 pub test-remove-spec : {M : Type 1} → statement M
 test-remove-spec =

@@ -36,13 +36,28 @@ enum-known-found-2 : tie.Need-enum-known-found-2
 enum-known-found-2 c = search needs
 
 returns-3 : tie.Need-returns-3
-returns-3 c = rw (passed-none (c .before .before .before .before .before .before .test-storage .ensures) (c .before .before .before .before .enum-told .given .1), eq-eqb _ _ (c .before .before .before .if1 .left)) (ap answerOf (sym (c .enum-told3 .given .1)) ∙ c .before .before .test-diagonal .ensures)
+returns-3 c =
+    let t : tie.After-test-diagonal = search in
+    let else1 : tie.Else1 = search in
+    let e : tie.After-enum-told = search in
+    let s : tie.After-test-storage = search in
+    rw (passed-none (s .test-storage .ensures) (e .enum-told .given .1), eq-eqb _ _ (else1 .if1 .left)) (ap answerOf (sym (c .enum-told3 .given .1)) ∙ t .test-diagonal .ensures)
 
 returns-4 : tie.Need-returns-4
-returns-4 c = rw (passed-none (c .before .before .before .before .before .before .before .test-storage .ensures) (c .before .before .before .before .before .enum-told .given .1), eq-eqb _ _ (c .before .before .before .before .if1 .left)) (ap answerOf (sym (c .before .found .given .1)) ∙ c .before .before .before .test-diagonal .ensures)
+returns-4 c =
+    let t : tie.After-test-diagonal = search in
+    let else1 : tie.Else1 = search in
+    let e : tie.After-enum-told = search in
+    let s : tie.After-test-storage = search in
+    rw (passed-none (s .test-storage .ensures) (e .enum-told .given .1), eq-eqb _ _ (else1 .if1 .left)) (ap answerOf (sym (c .before .found .given .1)) ∙ t .test-diagonal .ensures)
 
 returns-5 : tie.Need-returns-5
-returns-5 c = rw (passed-none (c .before .before .before .before .before .before .before .test-storage .ensures) (c .before .before .before .before .before .enum-told .given .1), eq-eqb _ _ (c .before .before .before .before .if1 .left)) (ap answerOf (sym (c .before .found2 .given .1)) ∙ c .before .before .before .test-diagonal .ensures)
+returns-5 c =
+    let t : tie.After-test-diagonal = search in
+    let else1 : tie.Else1 = search in
+    let e : tie.After-enum-told = search in
+    let s : tie.After-test-storage = search in
+    rw (passed-none (s .test-storage .ensures) (e .enum-told .given .1), eq-eqb _ _ (else1 .if1 .left)) (ap answerOf (sym (c .before .found2 .given .1)) ∙ t .test-diagonal .ensures)
 
 pub test-solve-spec : {M : Type 1} → statement M
 test-solve-spec =

@@ -25,18 +25,28 @@ returns-2 c =
 
 returns-3 : tie.Need-returns-3
 returns-3 c =
-    let g = given-lengths _ _ (c .before .before .before .before .before .storage-lengths .ensures) (c .before .before .before .required .given .1) in
-    short-L _ _ _ _ (c .before .before .before .before .before .before .if1 .left) (g .0) (omega (arith, g .1, c .if2 .taken))
+    let r : tie.After-required = search in
+    let s : tie.After-storage-lengths = search in
+    let else1 : tie.Else1 = search in
+    let g = given-lengths _ _ (s .storage-lengths .ensures) (r .required .given .1) in
+    short-L _ _ _ _ (else1 .if1 .left) (g .0) (omega (arith, g .1, c .if2 .taken))
 
 returns-4 : tie.Need-returns-4
 returns-4 c =
-    let g = given-lengths _ _ (c .before .before .before .before .before .before .before .storage-lengths .ensures) (c .before .before .before .before .before .required .given .1) in
-    short-U _ _ _ _ (c .before .before .before .before .before .before .before .before .if1 .left) (g .0) (omega (arith, g .2, c .if3 .taken))
+    let r : tie.After-required = search in
+    let s : tie.After-storage-lengths = search in
+    let else1 : tie.Else1 = search in
+    let g = given-lengths _ _ (s .storage-lengths .ensures) (r .required .given .1) in
+    short-U _ _ _ _ (else1 .if1 .left) (g .0) (omega (arith, g .2, c .if3 .taken))
 
 returns-5 : tie.Need-returns-5
 returns-5 c =
-    let g = given-lengths _ _ (c .before .before .before .before .before .before .before .storage-lengths .ensures) (c .before .before .before .before .before .required .given .1) in
-    storage-passes _ _ _ _ (c .before .before .before .before .before .before .before .before .if1 .left) (g .0) (omega (arith, g .1, c .before .before .if2 .left)) (omega (arith, g .2, c .if3 .left))
+    let else2 : tie.Else2 = search in
+    let r : tie.After-required = search in
+    let s : tie.After-storage-lengths = search in
+    let else1 : tie.Else1 = search in
+    let g = given-lengths _ _ (s .storage-lengths .ensures) (r .required .given .1) in
+    storage-passes _ _ _ _ (else1 .if1 .left) (g .0) (omega (arith, g .1, else2 .if2 .left)) (omega (arith, g .2, c .if3 .left))
 
 pub test-storage-spec : {M : Type 1} → statement M
 test-storage-spec =

@@ -24,10 +24,12 @@ same-length-2 c = search needs
 
 returns : tie.Need-returns
 returns c =
-    let a = c .before .before .before .before .before .before .before .before .before .before .before .before .before .before .args in
+    let b = let place : tie.After-back-substitute = search in place .back-substitute .ensures in
+    let product = let l : tie.After-apply-l = search in l .apply-l .ensures .0 in
+    let applied = let place : tie.After-apply-l = search in place .apply-l .ensures .1 in
+    let a = let start : tie.Start = search in start .args in
     let U = viewU (ieee binary64) (a .capacity) (now (a .u)) in
-    let product = c .before .before .before .before .before .before .before .before .apply-l .ensures .0 in
-    (written-over (ieee binary64) product (written-as (ieee binary64) _ (back-substitution-same (ieee binary64) (a .n) U U (λ i j _ _ _. U i j) _ _ (product .value) (a .n) (omega arith)) (c .before .before .back-substitute .ensures)), c .before .before .before .before .before .before .before .before .apply-l .ensures .1)
+    (written-over (ieee binary64) product (written-as (ieee binary64) _ (back-substitution-same (ieee binary64) (a .n) U U (λ i j _ _ _. U i j) _ _ (product .value) (a .n) (omega arith)) b), applied)
 
 pub solve-spec : {M : Type 1} → statement M
 solve-spec =

@@ -23,10 +23,13 @@ same-length-2 c = search needs
 
 returns : tie.Need-returns
 returns c =
-    let a = c .before .before .before .before .before .before .before .before .before .before .before .before .before .before .args in
+    let l : tie.After-apply-l-transposed = search in
+    let f : tie.After-forward-substitute = search in
+    let start : tie.Start = search in
+    let a = start .args in
     let L = viewL (ieee binary64) (a .capacity) (now (a .l)) in
-    let solved = c .before .before .before .before .before .before .before .before .before .forward-substitute .ensures in
-    (written-over (ieee binary64) solved (written-as (ieee binary64) _ (product-transposed-same (ieee binary64) (a .n) L L _ _ (λ i j _ _ _. L i j) (solved .value)) (c .before .before .before .before .apply-l-transposed .ensures .0)), c .before .before .before .before .apply-l-transposed .ensures .1)
+    let solved = f .forward-substitute .ensures in
+    (written-over (ieee binary64) solved (written-as (ieee binary64) _ (product-transposed-same (ieee binary64) (a .n) L L _ _ (λ i j _ _ _. L i j) (solved .value)) (l .apply-l-transposed .ensures .0)), l .apply-l-transposed .ensures .1)
 
 pub solve-transposed-spec : {M : Type 1} → statement M
 solve-transposed-spec =

@@ -44,8 +44,8 @@ sub-dot c = omega arith
 
 dot-requires : tie.Need-dot-requires Inv-loop μ-loop
 dot-requires c κs =
-    let loop = c .before .before .before .loop in
-    let a = c .before .before .before .before .before .before .args in
+    let loop = let l : tie.At-loop Inv-loop μ-loop = search in l .loop in
+    let a = let start : tie.Start Inv-loop μ-loop = search in start .args in
     let d = c .before .u-index in
     let k = loop .inv .1 .kept .long in
     let h = part-fits (a .stride) (loop .row - 1) (loop .row - 1) (a .n - (loop .row - 1)) (d .result) (omega arith) (omega arith) (d .ensures .0) (length (now (a .u))) (omega arith) (omega arith) in
@@ -74,14 +74,15 @@ loop-less c = omega arith
 
 loop-again : tie.Need-loop-again Inv-loop μ-loop
 loop-again c =
-    let loop = c .before .before .before .before .before .before .loop in
-    let u-index = c .before .before .before .before .u-index in
-    let a = c .before .before .before .before .before .before .before .before .before .args in
+    let d = let place : tie.After-dot Inv-loop μ-loop = search in place .dot .ensures in
+    let u-index = let u : tie.After-u-index Inv-loop μ-loop = search in u .u-index in
+    let loop = let l : tie.At-loop Inv-loop μ-loop = search in l .loop in
+    let a = let start : tie.Start Inv-loop μ-loop = search in start .args in
     let k = loop .inv .1 .kept .long in
     let e : loop .row ≡ loop .row - 1 + 1 = omega arith in (
       omega arith,
       back-more (ieee binary64) (a .stride) (a .n) (loop .row - 1) (u-index .result) (now (a .u)) (now (a .b)) (loop .b) (omega arith) (omega arith) (omega arith) (u-index .ensures .0) refl
-          (rw (← e) (loop .inv .1)) (c .before .before .dot .ensures),
+          (rw (← e) (loop .inv .1)) d,
     )
 
 same-length : tie.Need-same-length Inv-loop μ-loop

@@ -54,13 +54,15 @@ loop-less c = omega arith
 
 loop-again : tie.Need-loop-again Inv-loop μ-loop
 loop-again c =
-    let loop = c .before .before .before .before .before .before .loop in
-    let a = c .before .before .before .before .before .before .before .before .before .args in
+    let u = let place : tie.After-u-index Inv-loop μ-loop = search in place .u-index in
+    let d = let place : tie.After-dot-u-column Inv-loop μ-loop = search in place .dot-u-column .ensures in
+    let loop = let l : tie.At-loop Inv-loop μ-loop = search in l .loop in
+    let a = let start : tie.Start Inv-loop μ-loop = search in start .args in
     let k = loop .inv .1 .kept .long in (
       omega arith,
-      forward-more (ieee binary64) (a .stride) (a .n) (loop .row) (c .before .before .u-index .result) (now (a .u)) (now (a .b)) (loop .b) (omega arith) (omega arith) (omega arith)
-          (c .before .before .u-index .ensures .0) refl
-          (loop .inv .1) (c .before .before .before .dot-u-column .ensures),
+      forward-more (ieee binary64) (a .stride) (a .n) (loop .row) (u .result) (now (a .u)) (now (a .b)) (loop .b) (omega arith) (omega arith) (omega arith)
+          (u .ensures .0) refl
+          (loop .inv .1) d,
     )
 
 same-length : tie.Need-same-length Inv-loop μ-loop

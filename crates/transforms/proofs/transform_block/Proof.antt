@@ -67,8 +67,8 @@ loop-less c = omega arith
 
 loop-again : tie.Need-loop-again Inv-loop μ-loop
 loop-again c =
-    let start = c .before .before .before .before .before .before .before .before in
-    let loop = c .before .before .before .before .before .before .loop in
+    let loop = let l : tie.At-loop Inv-loop μ-loop = search in l .loop in
+    let start : tie.Start Inv-loop μ-loop = search in
     let h : loop .k < start .args .count = omega arith in (omega arith, rows-more (ieee binary64) (start .pre .0) h (omega arith) (omega arith) (loop .inv .1) (c .apply-pair .ensures .0) (c .apply-pair .ensures .1))
 
 same-length : tie.Need-same-length Inv-loop μ-loop

@@ -48,10 +48,12 @@ loop-less c = let r = c .before .before .before .before .block-length .ensures .
 
 loop-again : tie.Need-loop-again Inv-loop μ-loop
 loop-again c =
-    let start = c .before .before .before .before .before .before .before .before in
-    let inv = c .before .before .before .before .before .before .loop .inv in
-    let r = c .before .before .before .before .block-length .ensures .0 in
-    (omega arith, rows-further (ieee binary64) (start .args .x) (start .args .y) (start .args .count) (c .before .before .before .before .before .before .loop .done) (start .pre .0) (omega arith) (inv .1) (c .before .before .transform-block .ensures))
+    let t = let place : tie.After-transform-block Inv-loop μ-loop = search in place .transform-block .ensures in
+    let r = let b : tie.After-block-length Inv-loop μ-loop = search in b .block-length .ensures .0 in
+    let inv = let l : tie.At-loop Inv-loop μ-loop = search in l .loop .inv in
+    let done = let place : tie.At-loop Inv-loop μ-loop = search in place .loop .done in
+    let start : tie.Start Inv-loop μ-loop = search in
+    (omega arith, rows-further (ieee binary64) (start .args .x) (start .args .y) (start .args .count) done (start .pre .0) (omega arith) (inv .1) t)
 
 same-length : tie.Need-same-length Inv-loop μ-loop
 same-length c = c .before .loop .inv .1 .kept .long

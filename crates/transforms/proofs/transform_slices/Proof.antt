@@ -69,8 +69,10 @@ loop-less c = omega arith
 
 loop-again : tie.Need-loop-again Inv-loop μ-loop
 loop-again c =
-    let start = c .before .before .before .before .before .before .before .before .before in
-    let t = start .args .transform in let a = start .args in let here = c .before .before .before .before .before .before .loop .inv .1 in (omega arith, (firsts-more (ieee binary64) _ _ (a .x) (a .y) _ _ _ (here .0) (here .1) (omega arith) (c .apply-pair .ensures .0), seconds-more (ieee binary64) _ _ (a .x) (a .y) _ _ _ (here .0) (here .1) (omega arith) (c .apply-pair .ensures .1)))
+    let here = let l : tie.At-loop Inv-loop μ-loop = search in l .loop .inv .1 in
+    let start : tie.Start Inv-loop μ-loop = search in
+    let t = start .args .transform in let a = start .args in
+    (omega arith, (firsts-more (ieee binary64) _ _ (a .x) (a .y) _ _ _ (here .0) (here .1) (omega arith) (c .apply-pair .ensures .0), seconds-more (ieee binary64) _ _ (a .x) (a .y) _ _ _ (here .0) (here .1) (omega arith) (c .apply-pair .ensures .1)))
 
 same-length : tie.Need-same-length Inv-loop μ-loop
 same-length c = c .before .loop .inv .1 .0 .kept .long

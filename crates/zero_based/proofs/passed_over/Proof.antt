@@ -36,8 +36,12 @@ index-outside-requires-2 c κs = search needs
 returns-5 : tie.Need-returns-5
 unfolding passedOver
 returns-5 c =
-    let start = c .before .before .before .before .before .before in
-    let e = sym (c .before .before .index-outside .ensures ∙ ap (λ (z : ℤ). indexOutside (start .args .mode) 3 z (start .args .n)) (toZ-ofZ (start .fits .krow))) ∙ c .before .if4 .left in let f = c .index-outside2 .ensures ∙ ap (λ (z : ℤ). indexOutside (start .args .mode) 2 z (start .args .n)) (toZ-ofZ (start .fits .kcol)) in simp (ne-eqb _ _ (c .before .before .before .before .before .if1 .left), le-ltb _ _ (c .before .before .before .before .if2 .left), le-ltb _ _ (c .before .before .before .if3 .left), e, f)
+    let i : tie.After-index-outside = search in
+    let else3 : tie.Else3 = search in
+    let else2 : tie.Else2 = search in
+    let else1 : tie.Else1 = search in
+    let start : tie.Start = search in
+    let e = sym (i .index-outside .ensures ∙ ap (λ (z : ℤ). indexOutside (start .args .mode) 3 z (start .args .n)) (toZ-ofZ (start .fits .krow))) ∙ c .before .if4 .left in let f = c .index-outside2 .ensures ∙ ap (λ (z : ℤ). indexOutside (start .args .mode) 2 z (start .args .n)) (toZ-ofZ (start .fits .kcol)) in simp (ne-eqb _ _ (else1 .if1 .left), le-ltb _ _ (else2 .if2 .left), le-ltb _ _ (else3 .if3 .left), e, f)
 
 pub passed-over-spec : {M : Type 1} → statement M
 passed-over-spec =

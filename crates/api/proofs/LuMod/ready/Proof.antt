@@ -21,8 +21,10 @@ enum-known-test c = search needs
 
 returns : tie.Need-returns
 returns c =
-    let a = c .before .before .before .before .before .before .args in
-    λ t. readyUnder ((sym (ap testOf (c .before .test .given .1)) ∙ c .before .before .before .test-storage .ensures) t) (diagonals (ieee binary64) (viewU (ieee binary64) (a .self .capacity) (now (a .u))) (a .self .n))
+    let s : tie.After-test-storage = search in
+    let start : tie.Start = search in
+    let a = start .args in
+    λ t. readyUnder ((sym (ap testOf (c .before .test .given .1)) ∙ s .test-storage .ensures) t) (diagonals (ieee binary64) (viewU (ieee binary64) (a .self .capacity) (now (a .u))) (a .self .n))
 
 enum-told : tie.Need-enum-told
 enum-told c = search needs
