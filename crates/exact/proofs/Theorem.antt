@@ -15,6 +15,7 @@ use Rattle.machine.specs.Products.{product}
 use Rattle.machine.specs.Calls.{Call, push, replaceRow, replaceColumn, remove, solve, solveTransposed, Answer, refused, numberOf, _orElse_, refuseIf}
 use Rattle.machine.specs.Machine.{refusal, accepted, stepUnder, step, run}
 use Rattle.machine.proofs.Refusals.{or-else-none, index-within}
+use Rattle.machine.proofs.Numbered.{refusal-numbered, accepted-is-0}
 use Rattle.exact.specs.Fractions.{Fraction, whole, Undefined, fractions}
 use Rattle.exact.specs.Matrix.{Matrix, updated, updatedBy, matrixOf}
 use Rattle.exact.specs.Runs.{AllAccepted, acceptedCalls, lastState, exactRun}
@@ -29,21 +30,12 @@ use Rattle.exact.proofs.Fractions.{laws, laws-equal, laws-as-fractions}
 module _ (N : NumberForm) (E T : N .Value) where
   open NumberForm N using (Value)
 
-  accepted-is-0 : (S : State Value) (c : Call Value) → numberOf (accepted N E T S c .answer) ≡ 0
-  unfolding accepted
-  accepted-is-0 S (push row column d) = refl
-  accepted-is-0 S (replaceRow r row) = refl
-  accepted-is-0 S (replaceColumn k column) = refl
-  accepted-is-0 S (remove r k) = refl
-  accepted-is-0 S (solve b) = refl
-  accepted-is-0 S (solveTransposed b) = refl
-
   refused-after : (S : State Value) (c : Call Value) → numberOf (step N E T S c .answer) ≢ 0 → step N E T S c .after ≡ S
   unfolding step stepUnder
   refused-after S c = go (refusal N S c)
     where
       go : (o : Option Answer) → numberOf (stepUnder N E T o S c .answer) ≢ 0 → stepUnder N E T o S c .after ≡ S
-      go none d = absurd (d (accepted-is-0 S c))
+      go none d = absurd (d (accepted-is-0 N E T S c))
       go (some a) d = refl
 
   -- the accepted calls of a list, run alone, are all accepted, and leave what the list leaves
@@ -63,12 +55,6 @@ module _ (N : NumberForm) (E T : N .Value) where
       (refused-after S c (eqb-false _ 0 e)) rest))
 
 -- ---- an accepted call keeps L × A = U
-
--- a refusal has a number above 0
-refused-number : (b c : Bool) (j k : ℕ) (a : Answer) → 0 < j → 0 < k → (refuseIf b j orElse refuseIf c k) ≡ some a → numberOf a ≢ 0
-refused-number true c j k a p q e z = let h : j ≡ numberOf a = cc in omega arith
-refused-number false true j k a p q e z = let h : k ≡ numberOf a = cc in omega arith
-refused-number false false j k a p q e z = let h : _≡_ {A = ℕ} 0 1 = cc in omega arith
 
 module _ {N : NumberForm} (Λ : ExactLaws N) where
   open NumberForm N using (Value, zero as 𝟘)
@@ -96,16 +82,9 @@ module _ {N : NumberForm} (Λ : ExactLaws N) where
     accepted-kept (solve b) e = record { size = refl; factorization = h }
     accepted-kept (solveTransposed b) e = record { size = refl; factorization = h }
 
-    -- no update that is refused counts as accepted, and a solve changes nothing either way
+    -- no update that is refused counts as accepted
     refused-kept : (c : Call Value) (a : Answer) → refusal N S c ≡ some a → numberOf a ≡ 0 → Kept S (updated N A₀ c)
-    unfolding refusal updated
-    refused-kept (push row column d) a e z =
-        absurd (refused-number false (not (eqb (length row) (S .n) && eqb (length column) (S .n))) 7 7 a (omega arith) (omega arith) e z)
-    refused-kept (replaceRow r row) a e z = absurd (refused-number (leb (S .n) r) (not (eqb (length row) (S .n))) 5 7 a (omega arith) (omega arith) e z)
-    refused-kept (replaceColumn k column) a e z = absurd (refused-number (leb (S .n) k) (not (eqb (length column) (S .n))) 6 7 a (omega arith) (omega arith) e z)
-    refused-kept (remove r k) a e z = absurd (refused-number (leb (S .n) r) (leb (S .n) k) 5 6 a (omega arith) (omega arith) e z)
-    refused-kept (solve b) a e z = record { size = refl; factorization = h }
-    refused-kept (solveTransposed b) a e z = record { size = refl; factorization = h }
+    refused-kept c a e z = let h : 0 < numberOf a = refusal-numbered N S c a e in absurd (omega (arith, z))
 
     step-kept-at : (c : Call Value) → numberOf (step N 𝟘 𝟘 S c .answer) ≡ 0 → Kept (step N 𝟘 𝟘 S c .after) (updated N A₀ c)
     unfolding step stepUnder

@@ -4,7 +4,7 @@ use mathlib.Core.Path.{_≡_, refl}
 use mathlib.Core.Bool.{not, _&&_, cond}
 use mathlib.Core.List.{List, [], _∷_}
 use mathlib.Core.Option.{Option, none, some}
-use Prim.Native.Nat.{suc, _-_}
+use Prim.Native.Nat.{ℕ, suc, _-_}
 use lib.Dec.{leb, eqb}
 use lib.ListN.{length}
 use lib.Ieee.{Float, nan, binary64, eq, ofBits}
@@ -14,17 +14,35 @@ use Rattle.machine.specs.Updates.{pushed, columnReplaced, rowReplaced, r
 use Rattle.machine.specs.Solves.{solution, solutionTransposed, diagonals, diagonal}
 use Rattle.machine.specs.Calls.{Call, push, replaceRow, replaceColumn, remove, solve, solveTransposed, Answer, done, moved, refused, Result, _orElse_, refuseIf, given}
 
+-- ---- indices and lengths, at dimension n
+
+-- push: 7 for the lengths of row and column
+abbrev pub pushTests : ℕ → ℕ → ℕ → Option Answer
+pushTests n row column = refuseIf (not (eqb row n && eqb column n)) 7
+
+-- replace row or column: `outside`, which is 5 or 6, for the index, then 7 for the length of the values
+abbrev pub replacementTests : ℕ → ℕ → Answer → ℕ → Option Answer
+replacementTests n index outside values = cond (leb n index) (some outside) none orElse refuseIf (not (eqb values n)) 7
+
+-- remove: 5 for the row, then 6 for the column
+abbrev pub removeTests : ℕ → ℕ → ℕ → Option Answer
+removeTests n row column = refuseIf (leb n row) 5 orElse refuseIf (leb n column) 6
+
+-- solves: 7 for the length of the right-hand side
+abbrev pub solveTests : ℕ → ℕ → Option Answer
+solveTests n rhs = refuseIf (not (eqb rhs n)) 7
+
 module _ (N : NumberForm) where
   open NumberForm N using (Value)
 
   -- Push: 7. Replace row: 5, 7. Replace column: 6, 7. Remove: 5, 6. Solves: 7, then the diagonal upward.
   unfoldable pub refusal : State Value → Call Value → Option Answer
-  refusal S (push row column d) = refuseIf (not (eqb (length row) (S .n) && eqb (length column) (S .n))) 7
-  refusal S (replaceRow r row) = refuseIf (leb (S .n) r) 5 orElse refuseIf (not (eqb (length row) (S .n))) 7
-  refusal S (replaceColumn k column) = refuseIf (leb (S .n) k) 6 orElse refuseIf (not (eqb (length column) (S .n))) 7
-  refusal S (remove r k) = refuseIf (leb (S .n) r) 5 orElse refuseIf (leb (S .n) k) 6
-  refusal S (solve b) = refuseIf (not (eqb (length b) (S .n))) 7 orElse diagonals N (S .U) (S .n)
-  refusal S (solveTransposed b) = refuseIf (not (eqb (length b) (S .n))) 7 orElse diagonals N (S .U) (S .n)
+  refusal S (push row column d) = pushTests (S .n) (length row) (length column)
+  refusal S (replaceRow r row) = replacementTests (S .n) r (refused 5) (length row)
+  refusal S (replaceColumn k column) = replacementTests (S .n) k (refused 6) (length column)
+  refusal S (remove r k) = removeTests (S .n) r k
+  refusal S (solve b) = solveTests (S .n) (length b) orElse diagonals N (S .U) (S .n)
+  refusal S (solveTransposed b) = solveTests (S .n) (length b) orElse diagonals N (S .U) (S .n)
 
 module _ (N : NumberForm) (E T : N .Value) where
   open NumberForm N using (Value)

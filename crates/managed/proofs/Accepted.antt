@@ -1,45 +1,35 @@
 -- What an outcome says of an accepted call: it is the machine's, the dimension stays within the capacity, an update leaves the solve work and the buffers'
 -- ends, and a solve leaves the factors.
-use mathlib.Core.Path.{_≡_, refl, ap, _∙_, subst}
+use mathlib.Core.Path.{_≡_, ap, _∙_, subst}
 use mathlib.Core.Bool.{Bool, true, false}
-use mathlib.Core.List.{List}
 use mathlib.Core.Option.{Option, none}
 use Prim.Native.Nat.{ℕ, _*_, _≤_, _<_, max}
 use native.Mathlib.Omega.{arith}
 use lib.ListN.{getD}
 use Rattle.numbers.specs.NumberForm.{NumberForm}
-use Rattle.machine.specs.Tables.{State}
-use Rattle.machine.specs.Calls.{Call, push, replaceRow, replaceColumn, remove, solve, solveTransposed, Answer, numberOf, isUpdate}
+use Rattle.machine.specs.Calls.{Call, Answer, numberOf, isUpdate}
 use Rattle.machine.specs.Machine.{accepted, stepUnder}
 use Rattle.machine.specs.Agreement.{Same}
+use Rattle.machine.proofs.Numbered.{accepted-is-0}
 use Rattle.storage.specs.Places.{uLength, lIndex}
 use Rattle.storage.specs.Views.{viewL}
 use Rattle.storage.proofs.Places.{lIndex-within, lIndex-not-work, uIndex-within}
 use Rattle.managed.specs.Instance.{Instance, view}
 use Rattle.managed.specs.Refusals.{refusalAt}
-use Rattle.managed.specs.Outcome.{Frame, Outcome}
+use Rattle.managed.specs.Outcome.{Report, resultOf, Frame, Outcome}
 use Rattle.managed.proofs.Refusals.{reached-within}
 use Rattle.managed.proofs.ListClaim.{accepted-grows}
 
-accepted-is-0 : (N : NumberForm) (E T : N .Value) (S : State (N .Value)) (c : Call (N .Value)) → numberOf (accepted N E T S c .answer) ≡ 0
-unfolding accepted
-accepted-is-0 N E T S (push row column d) = refl
-accepted-is-0 N E T S (replaceRow r row) = refl
-accepted-is-0 N E T S (replaceColumn k column) = refl
-accepted-is-0 N E T S (remove r k) = refl
-accepted-is-0 N E T S (solve b) = refl
-accepted-is-0 N E T S (solveTransposed b) = refl
-
-module _ (N : NumberForm) (E T : N .Value) {c : Call (N .Value)} {s t : Instance (N .Value)} {a : Answer} {b : List (N .Value)} {k : ℕ} (o : Outcome N E T c s t a b k)
+module _ (N : NumberForm) (E T : N .Value) {c : Call (N .Value)} {s t : Instance (N .Value)} {r : Report (N .Value)} (o : Outcome N E T c s t r)
     (e : refusalAt N s c ≡ none) where
   open NumberForm N using (absent)
 
-  pub accepted-same : Same (record { answer = a; solved = b; after = view N t }) (accepted N E T (view N s) c)
+  pub accepted-same : Same (resultOf r (view N t)) (accepted N E T (view N s) c)
   unfolding stepUnder
-  accepted-same = subst (λ (p : Option Answer). Same (record { answer = a; solved = b; after = view N t }) (stepUnder N E T p (view N s) c)) e (o .result)
+  accepted-same = subst (λ (p : Option Answer). Same (resultOf r (view N t)) (stepUnder N E T p (view N s) c)) e (o .result)
 
   -- the answer of an accepted call is 0
-  pub accepted-number : numberOf a ≡ 0
+  pub accepted-number : numberOf (r .answer) ≡ 0
   accepted-number = ap numberOf (accepted-same .answer) ∙ accepted-is-0 N E T (view N s) c
 
   pub dimension-within : max (s .n) (t .n) ≤ s .c
@@ -52,10 +42,10 @@ module _ (N : NumberForm) (E T : N .Value) {c : Call (N .Value)} {s t : Instance
     framed = subst (λ (p : Bool). Frame N p s t) update (o .frame e)
 
     pub update-leaves-L : (q : ℕ) → s .c * s .c ≤ q → getD (t .l) q absent ≡ getD (s .l) q absent
-    update-leaves-L q h = framed .l .same q (λ p. omega (arith, p .4, lIndex-within (s .c) (p .0) (p .1) (omega (arith, p .2, dimension-within)) (omega (arith, p .3, dimension-within))))
+    update-leaves-L q h = framed .l-kept .same q (λ p. omega (arith, p .4, lIndex-within (s .c) (p .0) (p .1) (omega (arith, p .2, dimension-within)) (omega (arith, p .3, dimension-within))))
 
     pub update-leaves-U : (q : ℕ) → uLength (s .c) ≤ q → getD (t .u) q absent ≡ getD (s .u) q absent
-    update-leaves-U q h = framed .u .same q (λ p. omega (arith, p .4, uIndex-within (s .c) (p .0) (p .1) (p .2) (omega (arith, p .3, dimension-within))))
+    update-leaves-U q h = framed .u-kept .same q (λ p. omega (arith, p .4, uIndex-within (s .c) (p .0) (p .1) (p .2) (omega (arith, p .3, dimension-within))))
 
   -- ---- a solve
 

@@ -10,14 +10,15 @@ use Rattle.machine.specs.Tables.{State}
 use Rattle.machine.specs.Calls.{Call, push, replaceRow, replaceColumn, remove, solve, solveTransposed, Answer, isPush}
 use Rattle.machine.specs.Machine.{refusal, accepted, stepUnder, step}
 use Rattle.machine.specs.Counts.{count}
-use Rattle.machine.specs.Agreement.{Agree, Same}
+use Rattle.machine.specs.Agreement.{Agree, Same, AgreeCounted, SameCounted}
 use Rattle.machine.specs.Counter.{counterUnder, CountedState, CountedResult, afterCounted, countedStep, countedRun}
 use Rattle.machine.proofs.Choice.{agree-trans, same-sym, same-trans}
 use Rattle.machine.proofs.Step.{refusal-agrees, step-same}
 use Rattle.machine.proofs.Counts.{count-same}
 use Rattle.managed.specs.Instance.{view, viewCounted}
 use Rattle.managed.specs.Refusals.{refusalAt}
-use Rattle.managed.specs.Lists.{AgreeCounted, SameCounted, pushes, AllSame, Event, resultOf, countedResultOf, results, Happens, Trace, Setting, Claim}
+use Rattle.managed.specs.Outcome.{resultOf}
+use Rattle.managed.specs.Lists.{pushes, AllSame, Event, countedResultOf, results, Happens, Trace, Setting, Claim}
 use Rattle.managed.proofs.Refusals.{refusals-with-room}
 
 module _ {A : Type 0} where
@@ -64,13 +65,13 @@ module _ (N : NumberForm) (E T : N .Value) where
       let b : Agree (S .state) (view N (e .before)) = agree-trans (a .state) (h .resumes .state) in
       let k : S .counter ≡ e .before .counter = omega (arith, a .counter, h .resumes .counter) in
       let q = refusals-with-room N (e .before) c (h .lends) (omega (arith, h .at-capacity, b .n)) (λ u. omega (arith, h .workspace u, b .n)) in
-      let m : count N E T (S .state) c ≡ e .steps = count-same N E T (S .state) (view N (e .before)) c b ∙ sym (rw q at (h .outcome .steps)) in
+      let m : count N E T (S .state) c ≡ e .report .steps = count-same N E T (S .state) (view N (e .before)) c b ∙ sym (rw q at (h .outcome .steps)) in
       let p : refusal N (S .state) c ≡ refusalAt N (e .before) c = refusal-agrees N E T (S .state) (view N (e .before)) c b ∙ sym q in
-      let g : counterUnder (refusal N (S .state) c) c (S .counter) (count N E T (S .state) c) ≡ counterUnder (refusalAt N (e .before) c) c (e .before .counter) (e .steps) =
+      let g : counterUnder (refusal N (S .state) c) c (S .counter) (count N E T (S .state) c) ≡ counterUnder (refusalAt N (e .before) c) c (e .before .counter) (e .report .steps) =
       λ i. counterUnder (p i) c (k i) (m i) in
       record {
         result = same-trans (step-same N E T (S .state) (view N (e .before)) c b)
-            (same-sym (subst (λ (o : Option Answer). Same (resultOf N e) (stepUnder N E T o (view N (e .before)) c)) q (h .outcome .result)));
+            (same-sym (subst (λ (o : Option Answer). Same (resultOf (e .report) (view N (e .after))) (stepUnder N E T o (view N (e .before)) c)) q (h .outcome .result)));
         steps = m;
         counter = omega (arith, g, h .outcome .counter);
       }

@@ -1,13 +1,12 @@
--- An instance that has room refuses just what the plain machine refuses; and what an instance has that doesn't refuse a call.
-use mathlib.Core.Path.{_≡_, ap, _∙_, subst}
-use mathlib.Core.Bool.{Bool, true, false, not, _&&_, _||_, cond}
+-- What holds where tests pass; an instance that has room refuses just what the plain machine refuses; and what an instance has that doesn't refuse a call.
+use mathlib.Core.Path.{_≡_, refl, subst, _∙_}
+use mathlib.Core.Bool.{Bool, true, false, not, _||_, cond}
 use mathlib.Core.Option.{Option, none}
 use Prim.Native.Nat.{ℕ, _+_, _^_, _≤_, _<_}
 use native.Mathlib.Decide.{decLt}
 use native.Mathlib.Omega.{arith}
 use lib.Dec.{T as So, ltb, eqb, ltb→lt, eqb→eq, nltb→le}
 use lib.ListN.{length}
-use lib.Ieee.Fits.{and-l, and-r}
 use Rattle.numbers.specs.NumberForm.{NumberForm}
 use Rattle.machine.specs.Calls.{Call, Answer, _orElse_, refuseIf, isPush, isUpdate}
 use Rattle.machine.specs.Machine.{refusal}
@@ -15,30 +14,11 @@ use Rattle.machine.proofs.Choice.{neqb→ne}
 use Rattle.machine.proofs.Refusals.{or-else-none, or-else-last, refuse-if-none, refuse-if-false, equations-hold}
 use Rattle.storage.specs.Places.{lLength, uLength, overflows}
 use Rattle.storage.proofs.Lengths.{overflows-from}
+use Rattle.managed.specs.declared.LentLengths.{LentLengths}
 use Rattle.managed.specs.Instance.{Instance, view}
-use Rattle.managed.specs.Refusals.{storageTests, workspaceTests, lentTests, reached, refusalAt}
+use Rattle.managed.specs.Refusals.{dimensionTest, sizeTests, storageTests, workspaceTests, lentTests, capacityTest, roomTest, inOrder, lends, reached, refusalAt}
 
-module _ (N : NumberForm) (s : Instance (N .Value)) (c : Call (N .Value)) where
-  -- With room for the pushes, an instance whose storage passes refuses just what the plain machine refuses: 4 and 8 don't occur.
-  pub refusals-with-room : lentTests s c ≡ none → reached s c ≤ s .c → (So (isUpdate c) → reached s c ≤ length (s .y)) → refusalAt N s c ≡ refusal N (view N s) c
-  unfolding refusalAt
-  refusals-with-room lends capacity workspace =
-      ap (λ (o : Option Answer). o orElse refuseIf (isPush c && eqb (s .n) (s .c)) 4 orElse refusal N (view N s) c orElse refuseIf (isUpdate c && ltb (length (s .y)) (reached s c)) 8) lends
-      ∙ ap (λ (o : Option Answer). o orElse refusal N (view N s) c orElse refuseIf (isUpdate c && ltb (length (s .y)) (reached s c)) 8) no-4
-      ∙ or-else-last (refusal N (view N s) c) _ no-8
-    where
-      pushing : (b : Bool) → s .n + cond b 1 0 ≤ s .c → So (b && eqb (s .n) (s .c)) → ⊥
-      pushing true h t = omega (arith, eqb→eq (s .n) (s .c) t)
-      pushing false h t = t
-
-      no-4 : refuseIf (isPush c && eqb (s .n) (s .c)) 4 ≡ none
-      no-4 = refuse-if-false (isPush c && eqb (s .n) (s .c)) 4 (pushing (isPush c) capacity)
-
-      no-8 : refuseIf (isUpdate c && ltb (length (s .y)) (reached s c)) 8 ≡ none
-      no-8 = refuse-if-false (isUpdate c && ltb (length (s .y)) (reached s c)) 8 (λ t.
-          let u = workspace (and-l (isUpdate c) (ltb (length (s .y)) (reached s c)) t) in
-          let b = ltb→lt (length (s .y)) (reached s c) (and-r (isUpdate c) (ltb (length (s .y)) (reached s c)) t) in
-          omega arith)
+-- ---- the parts
 
 -- two tests that both pass
 neither : {P Q : Type 0} (p q : Bool) → So (not (p || q)) → (So (not p) → P) → (So (not q) → Q) → P × Q
@@ -54,7 +34,7 @@ pub record StoragePassed (n c l u : ℕ) : Type 0 where
   pub U : uLength c ≤ u
 
 pub storage-passed : (n c l u : ℕ) → storageTests n c l u ≡ none → StoragePassed n c l u
-unfolding storageTests
+unfolding dimensionTest sizeTests
 storage-passed n c l u h =
     let one = or-else-none (refuseIf (ltb c n) 1) _ h in
     let two = or-else-none (refuseIf (overflows c) 2) _ (one .1) in
@@ -70,31 +50,67 @@ storage-passed n c l u h =
     within-usize (yes b) k = b
     within-usize (no b) k = absurd (subst (λ (o : Bool). So (not o)) (overflows-from c (omega (arith, b))) k)
 
--- workspaces of one length
-pub workspaces-passed : (y z w : ℕ) → workspaceTests y z w ≡ none → (y ≡ z) × (y ≡ w)
+-- ---- all parts
+
+pub record OrderPassed (lent capacity indices room : Option Answer) : Type 0 where
+  pub is-lent : lent ≡ none
+  pub has-capacity : capacity ≡ none
+  pub has-indices : indices ≡ none
+  pub has-room : room ≡ none
+
+pub order-passed : {lent capacity indices room : Option Answer} → inOrder lent capacity indices room ≡ none → OrderPassed lent capacity indices room
+order-passed {lent} {capacity} {indices} {room} e =
+    let first = or-else-none lent _ e in
+    let second = or-else-none capacity _ (first .1) in
+    let third = or-else-none indices room (second .1) in
+    record { is-lent = first .0; has-capacity = second .0; has-indices = third .0; has-room = third .1 }
+
+-- an update's storage at this dimension, and its workspaces for m
+pub record UpdatePassed (n c : ℕ) (lent : LentLengths) (m : ℕ) : Type 0 where
+  pub storage : StoragePassed n c (lent .l) (lent .u)
+  pub y : m ≤ lent .y
+  pub z : m ≤ lent .z
+  pub w : m ≤ lent .w
+
+pub update-passed : (n c : ℕ) (lent : LentLengths) (m : ℕ) → lentTests true n c lent ≡ none → roomTest m (lent .y) ≡ none → UpdatePassed n c lent m
 unfolding workspaceTests
-workspaces-passed y z w h = equations-hold y z y w 3 h
+update-passed n c lent m e f =
+    let first = or-else-none (storageTests n c (lent .l) (lent .u)) _ e in
+    let same = equations-hold (lent .y) (lent .z) (lent .y) (lent .w) 3 (first .1) in
+    let long = nltb→le (lent .y) m (refuse-if-none (ltb (lent .y) m) 8 f) in
+    record { storage = storage-passed n c (lent .l) (lent .u) (first .0); y = long; z = omega (arith, same .0); w = omega (arith, same .1) }
 
--- an instance that does not refuse a call
-module _ (N : NumberForm) (s : Instance (N .Value)) (c : Call (N .Value)) (e : refusalAt N s c ≡ none) where
-  after-lent : (refuseIf (isPush c && eqb (s .n) (s .c)) 4 ≡ none) × (refusal N (view N s) c ≡ none) × (refuseIf (isUpdate c && ltb (length (s .y)) (reached s c)) 8 ≡ none)
+pub capacity-passed : (n c : ℕ) → n ≤ c → capacityTest n c ≡ none → n < c
+capacity-passed n c h e = omega (arith, neqb→ne n c (refuse-if-none (eqb n c) 4 e))
+
+-- ---- an instance
+
+module _ (N : NumberForm) (s : Instance (N .Value)) (c : Call (N .Value)) where
+  -- With room for the pushes, an instance whose storage passes refuses just what the plain machine refuses: 4 and 8 don't occur.
+  pub refusals-with-room : lends s c ≡ none → reached s c ≤ s .c → (So (isUpdate c) → reached s c ≤ length (s .y)) → refusalAt N s c ≡ refusal N (view N s) c
   unfolding refusalAt
-  after-lent =
-      let four = or-else-none (refuseIf (isPush c && eqb (s .n) (s .c)) 4) _ (or-else-none (lentTests s c) _ e .1) in
-      let last = or-else-none (refusal N (view N s) c) _ (four .1) in
-      (four .0, last .0, last .1)
-
-  lent-passed : (storageTests (s .n) (s .c) (length (s .l)) (length (s .u)) ≡ none)
-      × (cond (isUpdate c) (workspaceTests (length (s .y)) (length (s .z)) (length (s .w))) none ≡ none)
-  unfolding refusalAt lentTests
-  lent-passed = or-else-none _ _ (or-else-none (lentTests s c) _ e .0)
-
-  pub accepted-storage : StoragePassed (s .n) (s .c) (length (s .l)) (length (s .u))
-  accepted-storage = storage-passed (s .n) (s .c) (length (s .l)) (length (s .u)) (lent-passed .0)
-
-  pub reached-within : reached s c ≤ s .c
-  reached-within = go (isPush c) (accepted-storage .dimension) (refuse-if-none (isPush c && eqb (s .n) (s .c)) 4 (after-lent .0))
+  refusals-with-room lent capacity workspace =
+      rw (lent, no-4 (isPush c) capacity) (or-else-last (refusal N (view N s) c) _ (no-8 (isUpdate c) workspace))
     where
-      go : (p : Bool) → s .n ≤ s .c → So (not (p && eqb (s .n) (s .c))) → s .n + cond p 1 0 ≤ s .c
-      go true h k = omega (arith, neqb→ne (s .n) (s .c) k)
-      go false h k = omega arith
+      no-4 : (b : Bool) → s .n + cond b 1 0 ≤ s .c → cond b (capacityTest (s .n) (s .c)) none ≡ none
+      no-4 true h = refuse-if-false (eqb (s .n) (s .c)) 4 (λ t. omega (arith, eqb→eq (s .n) (s .c) t))
+      no-4 false h = refl
+
+      no-8 : (b : Bool) → (So b → reached s c ≤ length (s .y)) → cond b (roomTest (reached s c) (length (s .y))) none ≡ none
+      no-8 true h = let g = h tt in refuse-if-false (ltb (length (s .y)) (reached s c)) 8 (λ t. omega (arith, ltb→lt (length (s .y)) (reached s c) t, g))
+      no-8 false h = refl
+
+  module _ (e : refusalAt N s c ≡ none) where
+    passed : OrderPassed (lends s c) (cond (isPush c) (capacityTest (s .n) (s .c)) none) (refusal N (view N s) c) (cond (isUpdate c) (roomTest (reached s c) (length (s .y))) none)
+    unfolding refusalAt
+    passed = order-passed e
+
+    pub accepted-storage : StoragePassed (s .n) (s .c) (length (s .l)) (length (s .u))
+    accepted-storage = storage-passed (s .n) (s .c) (length (s .l)) (length (s .u)) (or-else-none _ _ (passed .is-lent) .0)
+
+    pub reached-within : reached s c ≤ s .c
+    reached-within = go (isPush c) (accepted-storage .dimension) (passed .has-capacity)
+      where
+        go : (p : Bool) → s .n ≤ s .c → cond p (capacityTest (s .n) (s .c)) none ≡ none → s .n + cond p 1 0 ≤ s .c
+        go true h k = omega (arith, capacity-passed (s .n) (s .c) h k)
+        go false h k = omega arith

@@ -14,15 +14,15 @@ use Rattle.machine.specs.Tables.{State}
 use Rattle.machine.specs.Calls.{Call, push, replaceRow, replaceColumn, remove, solve, solveTransposed, Answer, Result, given, isPush, isUpdate}
 use Rattle.machine.specs.Machine.{accepted, stepUnder}
 use Rattle.machine.specs.Counts.{acceptedCount}
-use Rattle.machine.specs.Agreement.{Agree}
+use Rattle.machine.specs.Agreement.{Agree, AgreeCounted}
 use Rattle.machine.proofs.Choice.{agree-refl}
 use Rattle.storage.specs.Places.{lLength, uLength, overflows, lIndex, uIndex}
 use Rattle.storage.proofs.Places.{lIndex-within, lIndex-injective, uIndex-within, uIndex-injective}
 use Rattle.machine.specs.Counter.{capped, CountedState}
 use Rattle.managed.specs.Instance.{Instance, view, viewCounted}
-use Rattle.managed.specs.Refusals.{workspaceTests, lentTests, refusalAt}
-use Rattle.managed.specs.Lists.{AgreeCounted, pushes, Event, Trace, Setting}
-use Rattle.managed.specs.Outcome.{Frame, Outcome}
+use Rattle.managed.specs.Refusals.{workspaceTests, lends, refusalAt}
+use Rattle.managed.specs.Lists.{pushes, Event, Trace, Setting}
+use Rattle.managed.specs.Outcome.{Report, report, Frame, Outcome}
 use Rattle.managed.proofs.StorageTests.{storage-passes}
 use Rattle.managed.proofs.Refusals.{reached-within, accepted-storage}
 use Rattle.storage.proofs.Kept.{kept-all}
@@ -36,10 +36,8 @@ module _ (N : NumberForm) (E T : N .Value) where
   -- an outcome, with what it leaves
   pub record Met (s : Instance Value) (c : Call Value) : Type 0 where
     pub after : Instance Value
-    pub answer : Answer
-    pub solved : List Value
-    pub steps : ℕ
-    pub outcome : Outcome N E T c s after answer solved steps
+    pub report : Report Value
+    pub outcome : Outcome N E T c s after report
 
   -- an accepted update: the machine's factors are written to their places
   module _ (s : Instance Value) (c : Call Value) (e : refusalAt N s c ≡ none) where
@@ -76,11 +74,11 @@ module _ (N : NumberForm) (E T : N .Value) where
 
     framed : Frame N true s t
     framed = record {
-      l = written-kept N (lIndex (s .c)) (λ i j. true) (R .L) (R .n) (s .l) _ (λ i j hi hj _. (i, j, omega arith, omega arith, refl));
-      u = written-kept N (uIndex (s .c)) leb (R .U) (R .n) (s .u) _ (λ i j hi hj a. (i, j, leb→le i j a, omega arith, refl));
-      y = kept-all N;
-      z = kept-all N;
-      w = kept-all N;
+      l-kept = written-kept N (lIndex (s .c)) (λ i j. true) (R .L) (R .n) (s .l) _ (λ i j hi hj _. (i, j, omega arith, omega arith, refl));
+      u-kept = written-kept N (uIndex (s .c)) leb (R .U) (R .n) (s .u) _ (λ i j hi hj a. (i, j, leb→le i j a, omega arith, refl));
+      y-kept = kept-all N;
+      z-kept = kept-all N;
+      w-kept = kept-all N;
     }
 
   solve-stands : (S : State Value) (c : Call Value) → isUpdate c ≡ false → accepted N E T S c .after ≡ S
@@ -95,24 +93,20 @@ module _ (N : NumberForm) (E T : N .Value) where
   pub every-call : (s : Instance Value) (c : Call Value) → Met s c
   every-call s c = go (refusalAt N s c) refl (isUpdate c) refl
     where
-      R : Result Value
-      R = accepted N E T (view N s) c
+      made : Report Value
+      made = report (accepted N E T (view N s) c .answer) (accepted N E T (view N s) c .solved) (acceptedCount N E T (view N s) c)
 
       go : (o : Option Answer) → refusalAt N s c ≡ o → (b : Bool) → isUpdate c ≡ b → Met s c
-      go (some r) e b k = record { after = s; answer = r; solved = given c; steps = 0; outcome = outcome-refused N E T c s e }
+      go (some r) e b k = record { after = s; report = report r (given c) 0; outcome = outcome-refused N E T c s e }
       go none e true k = record {
         after = t s c e;
-        answer = R .answer;
-        solved = R .solved;
-        steps = acceptedCount N E T (view N s) c;
+        report = made;
         outcome = outcome-accepted N E T c s e (record { answer = refl; solved = refl; after = shown s c e }) refl refl (rw k)
             (subst (λ (p : Bool). Frame N p s (t s c e)) (sym k) (framed s c e));
       }
       go none e false k = record {
         after = s;
-        answer = R .answer;
-        solved = R .solved;
-        steps = acceptedCount N E T (view N s) c;
+        report = made;
         outcome = outcome-accepted N E T c s e
             (record { answer = refl; solved = refl; after = subst (Agree (view N s)) (sym (solve-stands (view N s) c k)) (agree-refl (view N s)) }) refl refl (rw k)
             (subst (λ (p : Bool). Frame N p s s) (sym k) (record { l = kept-all N; u = refl; y = refl; z = refl; w = refl }));
@@ -128,8 +122,8 @@ module _ (N : NumberForm) (E T : N .Value) where
     pub z : length (s .y) ≡ length (s .z)
     pub w : length (s .y) ≡ length (s .w)
 
-  fit-lends : (s : Instance Value) (c : Call Value) → Fit s → s .n ≤ s .c → lentTests s c ≡ none
-  unfolding lentTests workspaceTests
+  fit-lends : (s : Instance Value) (c : Call Value) → Fit s → s .n ≤ s .c → lends s c ≡ none
+  unfolding workspaceTests
   fit-lends s c f h =
       rw (← (storage-passes (s .n) (s .c) (length (s .l)) (length (s .u)) h (f .size) (f .l) (f .u)), eq-eqb (length (s .y)) (length (s .z)) (f .z), eq-eqb (length (s .y)) (length (s .w)) (f .w))
       (go (isUpdate c))
@@ -147,11 +141,11 @@ module _ (N : NumberForm) (E T : N .Value) where
     z : length (t .z) ≡ length (s .z)
     w : length (t .w) ≡ length (s .w)
 
-  as-long : {s t : Instance Value} {c : Call Value} {a : Answer} {b : List Value} {k : ℕ} → Outcome N E T c s t a b k → AsLong s t
+  as-long : {s t : Instance Value} {c : Call Value} {r : Report Value} → Outcome N E T c s t r → AsLong s t
   as-long {s} {t} {c} o = go (refusalAt N s c) refl (isUpdate c) refl
     where
       framed-long : (b : Bool) → Frame N b s t → AsLong s t
-      framed-long true f = record { c = o .capacity; l = f .l .long; u = f .u .long; y = f .y .long; z = f .z .long; w = f .w .long }
+      framed-long true f = record { c = o .capacity; l = f .l-kept .long; u = f .u-kept .long; y = f .y-kept .long; z = f .z-kept .long; w = f .w-kept .long }
       framed-long false f = record { c = o .capacity; l = f .l .long; u = ap length (f .u); y = ap length (f .y); z = ap length (f .z); w = ap length (f .w) }
 
       go : (p : Option Answer) → refusalAt N s c ≡ p → (b : Bool) → isUpdate c ≡ b → AsLong s t
@@ -159,7 +153,7 @@ module _ (N : NumberForm) (E T : N .Value) where
       go none e b k = framed-long (isUpdate c) (o .frame e)
 
   -- the dimension grows by pushes alone
-  grows : {s t : Instance Value} {c : Call Value} {a : Answer} {b : List Value} {k : ℕ} → Outcome N E T c s t a b k → t .n ≤ s .n + cond (isPush c) 1 0
+  grows : {s t : Instance Value} {c : Call Value} {r : Report Value} → Outcome N E T c s t r → t .n ≤ s .n + cond (isPush c) 1 0
   unfolding stepUnder
   grows {s} {t} {c} o = go (refusalAt N s c) (o .result .after .n)
     where
@@ -183,7 +177,7 @@ module _ (N : NumberForm) (E T : N .Value) where
       let m = every-call s x in
       let k = as-long (m .outcome) in
       let rest = every-list room xs (m .after) (fit-after k f) (omega (arith, grows (m .outcome))) (omega (arith, k .c)) (omega (arith, k .y)) in
-      let e : Event Value = record { before = s; after = m .after; answer = m .answer; solved = m .solved; steps = m .steps } in
+      let e : Event Value = record { before = s; after = m .after; report = m .report } in
       (e ∷ rest .0, (record { resumes = record { state = agree-refl (view N s); counter = refl }; at-capacity = refl; lends = fit-lends s x f (omega arith); workspace = λ _. y; outcome = m .outcome }, subst (λ (d : ℕ). Trace N E T d room (viewCounted N (m .after)) xs (rest .0)) (k .c) (rest .1)))
 
   -- two instances from one start

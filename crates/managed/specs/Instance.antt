@@ -1,12 +1,23 @@
 -- An instance is a state with the storage and workspaces lent to its calls; its view is what the plain machine has of it.
 use mathlib.Core.List.{List, []}
 use Prim.Native.Nat.{ℕ}
+use lib.ListN.{length}
 use Rattle.numbers.specs.NumberForm.{NumberForm}
 use Rattle.machine.specs.Tables.{State}
-use Rattle.storage.specs.Views.{viewL, viewU}
 use Rattle.machine.specs.Counter.{CountedState}
+use Rattle.storage.specs.Views.{stateAt}
+use Rattle.managed.specs.declared.LentLengths.{LentLengths}
 
--- n is the dimension, c the capacity and counter the pair steps counted so far; a solve is lent no workspaces, and its y, z and w are []
+-- the state that a call gets and hands back by value: the dimension, the capacity and the pair steps counted so far
+pub record StateValue : Type 0 where
+  pub n : ℕ
+  pub capacity : ℕ
+  pub counter : ℕ
+
+abbrev pub stateValue : ℕ → ℕ → ℕ → StateValue
+stateValue n c counter = record { n = n; capacity = c; counter = counter }
+
+-- n is the dimension and c the capacity; a solve is lent no workspaces, and its y, z and w are []
 pub record Instance (A : Type 0) : Type 0 where
   pub n : ℕ
   pub c : ℕ
@@ -18,18 +29,21 @@ pub record Instance (A : Type 0) : Type 0 where
   pub w : List A
 
 module _ {A : Type 0} where
-  abbrev pub instance : ℕ → ℕ → ℕ → List A → List A → List A → List A → List A → Instance A
-  instance n c counter l u y z w = record { n = n; c = c; counter = counter; l = l; u = u; y = y; z = z; w = w }
+  abbrev pub instance : StateValue → List A → List A → List A → List A → List A → Instance A
+  instance v l u y z w = record { n = v .n; c = v .capacity; counter = v .counter; l = l; u = u; y = y; z = z; w = w }
 
   -- as lent to a solve
-  abbrev pub lentToSolve : ℕ → ℕ → ℕ → List A → List A → Instance A
-  lentToSolve n c counter l u = instance n c counter l u [] [] []
+  abbrev pub lentToSolve : StateValue → List A → List A → Instance A
+  lentToSolve v l u = instance v l u [] [] []
+
+  abbrev pub lengthsOf : Instance A → LentLengths
+  lengthsOf s = record { l = length (s .l); u = length (s .u); y = length (s .y); z = length (s .z); w = length (s .w) }
 
 module _ (N : NumberForm) where
   open NumberForm N using (Value)
 
   abbrev pub view : Instance Value → State Value
-  view s = record { n = s .n; L = viewL N (s .c) (s .l); U = viewU N (s .c) (s .u) }
+  view s = stateAt N (s .c) (s .n) (s .l) (s .u)
 
   -- the same with the counter
   abbrev pub viewCounted : Instance Value → CountedState Value

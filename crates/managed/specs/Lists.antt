@@ -7,23 +7,12 @@ use mathlib.Core.Option.{none}
 use Prim.Native.Nat.{ℕ, _+_, _≤_}
 use lib.ListN.{length}
 use Rattle.numbers.specs.NumberForm.{NumberForm}
-use Rattle.machine.specs.Calls.{Call, Answer, Result, isPush, isUpdate}
+use Rattle.machine.specs.Calls.{Call, isPush, isUpdate}
 use Rattle.machine.specs.Counter.{CountedState, CountedResult, countedRun}
-use Rattle.machine.specs.Agreement.{Agree, Same}
+use Rattle.machine.specs.Agreement.{AgreeCounted, SameCounted}
 use Rattle.managed.specs.Instance.{Instance, view, viewCounted}
-use Rattle.managed.specs.Refusals.{lentTests}
-use Rattle.managed.specs.Outcome.{Outcome}
-
--- equal dimensions, active entries and counters
-pub record AgreeCounted {A : Type 0} (S R : CountedState A) : Type 0 where
-  pub state : Agree (S .state) (R .state)
-  pub counter : S .counter ≡ R .counter
-
--- the same answer, number of pair steps and solved vector, and after the call the same dimension, active factors and counter
-pub record SameCounted {A : Type 0} (a b : CountedResult A) : Type 0 where
-  pub result : Same (a .result) (b .result)
-  pub steps : a .steps ≡ b .steps
-  pub counter : a .counter ≡ b .counter
+use Rattle.managed.specs.Refusals as refusals
+use Rattle.managed.specs.Outcome.{Report, resultOf, Outcome}
 
 module _ {A : Type 0} where
   -- Pushes in the list are counted whether refused or not.
@@ -42,18 +31,13 @@ module _ {A : Type 0} where
 pub record Event (A : Type 0) : Type 0 where
   pub before : Instance A
   pub after : Instance A
-  pub answer : Answer
-  pub solved : List A
-  pub steps : ℕ
+  pub report : Report A
 
 module _ (N : NumberForm) where
   open NumberForm N using (Value)
 
-  abbrev pub resultOf : Event Value → Result Value
-  resultOf e = record { answer = e .answer; solved = e .solved; after = view N (e .after) }
-
   abbrev pub countedResultOf : Event Value → CountedResult Value
-  countedResultOf e = record { result = resultOf e; steps = e .steps; counter = e .after .counter }
+  countedResultOf e = record { result = resultOf (e .report) (view N (e .after)); steps = e .report .steps; counter = e .after .counter }
 
   abbrev pub results : List (Event Value) → List (CountedResult Value)
   results [] = []
@@ -68,9 +52,9 @@ module _ (N : NumberForm) (E T : N .Value) where
   pub record Happens (capacity room : ℕ) (S : CountedState Value) (c : Call Value) (e : Event Value) : Type 0 where
     pub resumes : AgreeCounted S (viewCounted N (e .before))
     pub at-capacity : e .before .c ≡ capacity
-    pub lends : lentTests (e .before) c ≡ none
+    pub lends : refusals.lends (e .before) c ≡ none
     pub workspace : So (isUpdate c) → room ≤ length (e .before .y)
-    pub outcome : Outcome N E T c (e .before) (e .after) (e .answer) (e .solved) (e .steps)
+    pub outcome : Outcome N E T c (e .before) (e .after) (e .report)
 
   -- a list of calls, one after another
   abbrev pub Trace : ℕ → ℕ → CountedState Value → List (Call Value) → List (Event Value) → Type 0

@@ -1,7 +1,7 @@
 -- The refusals of the managed calls, 1 to 10, in document 01's order. Below stand computed lines for that order, one for each two conditions that follow
 -- one another and can hold at once.
 use mathlib.Core.Path.{_≡_, refl}
-use mathlib.Core.Bool.{not, _&&_, _||_, cond}
+use mathlib.Core.Bool.{Bool, not, _&&_, _||_, cond}
 use mathlib.Core.List.{List, [], _∷_}
 use mathlib.Core.Option.{Option, none, some}
 use Prim.Native.Nat.{ℕ, _+_, _^_}
@@ -13,22 +13,49 @@ use Rattle.machine.specs.Calls.{Call, push, replaceRow, replaceColumn, remove, 
 use Rattle.machine.specs.Solves.{diagonals}
 use Rattle.machine.specs.Machine.{refusal}
 use Rattle.storage.specs.Places.{lLength, uLength, overflows, uIndex}
-use Rattle.managed.specs.Instance.{Instance, view}
+use Rattle.managed.specs.declared.LentLengths.{LentLengths}
+use Rattle.managed.specs.Instance.{Instance, lengthsOf, view}
 
--- 1: n > c. 2: c + 1 or c × (c + 1) exceeds usize. 3: L or U too short. For a dimension, a capacity and the lengths of L and U
-unfoldable pub storageTests : ℕ → ℕ → ℕ → ℕ → Option Answer
-storageTests n c l u = refuseIf (ltb c n) 1 orElse refuseIf (overflows c) 2 orElse refuseIf (ltb l (lLength c) || ltb u (uLength c)) 3
+-- ---- the parts, by dimension, capacity and lengths. Indices and lengths of data (5, 6, 7) and the diagonals (9, 10) are the plain machine's.
+
+-- 1: n > c
+unfoldable pub dimensionTest : ℕ → ℕ → Option Answer
+dimensionTest n c = refuseIf (ltb c n) 1
+
+-- 2: c + 1 or c × (c + 1) exceeds usize. 3: L or U too short
+unfoldable pub sizeTests : ℕ → ℕ → ℕ → Option Answer
+sizeTests c l u = refuseIf (overflows c) 2 orElse refuseIf (ltb l (lLength c) || ltb u (uLength c)) 3
+
+-- storage
+abbrev pub storageTests : ℕ → ℕ → ℕ → ℕ → Option Answer
+storageTests n c l u = dimensionTest n c orElse sizeTests c l u
 
 -- 3: workspaces of unequal length
 unfoldable pub workspaceTests : ℕ → ℕ → ℕ → Option Answer
 workspaceTests y z w = refuseIf (not (eqb y z && eqb y w)) 3
 
+-- Every managed call lends its storage and tests 1, 2, 3 (storage), then, where it lends workspaces (all updates, no solve), 3 for them.
+abbrev pub lentTests : Bool → ℕ → ℕ → LentLengths → Option Answer
+lentTests update n c lent = storageTests n c (lent .l) (lent .u) orElse cond update (workspaceTests (lent .y) (lent .z) (lent .w)) none
+
+-- 4: a push at n = c
+abbrev pub capacityTest : ℕ → ℕ → Option Answer
+capacityTest n c = refuseIf (eqb n c) 4
+
+-- 8: workspaces shorter than the dimension m for which the update needs them
+abbrev pub roomTest : ℕ → ℕ → Option Answer
+roomTest m y = refuseIf (ltb y m) 8
+
+-- ---- the order
+
+-- what the call lends; 4; indices and lengths, with a solve's diagonals behind them; 8. A part that a call does not have is `none`.
+abbrev pub inOrder : Option Answer → Option Answer → Option Answer → Option Answer → Option Answer
+inOrder lent capacity indices room = lent orElse capacity orElse indices orElse room
+
 module _ {A : Type 0} where
-  -- Every managed call lends its storage and tests 1, 2, 3 (storage), then, where it lends workspaces (all updates, no solve), 3 for them.
-  unfoldable pub lentTests : Instance A → Call A → Option Answer
-  lentTests s c =
-      storageTests (s .n) (s .c) (length (s .l)) (length (s .u))
-      orElse cond (isUpdate c) (workspaceTests (length (s .y)) (length (s .z)) (length (s .w))) none
+  -- what the call c is lent, tested
+  abbrev pub lends : Instance A → Call A → Option Answer
+  lends s c = lentTests (isUpdate c) (s .n) (s .c) (lengthsOf s)
 
   -- the dimension for which an update needs workspace: n, and n + 1 for a push
   abbrev pub reached : Instance A → Call A → ℕ
@@ -37,14 +64,15 @@ module _ {A : Type 0} where
 module _ (N : NumberForm) where
   open NumberForm N using (Value)
 
-  -- Then 4 for a push at n = c; then the plain machine's own, which are 7 for a push, 5, 7 for replace row, 6, 7 for replace column, 5, 6 for remove, and
-  -- 7, 9, 10 for the solves; then 8 for an update whose workspace is shorter than n (push: n + 1).
+  -- 4 is for a push; the plain machine's own are 7 for a push, 5, 7 for replace row, 6, 7 for replace column, 5, 6 for remove, and 7, 9, 10 for the solves;
+  -- 8 is for an update.
   unfoldable pub refusalAt : Instance Value → Call Value → Option Answer
   refusalAt s c =
-      lentTests s c
-      orElse refuseIf (isPush c && eqb (s .n) (s .c)) 4
-      orElse refusal N (view N s) c
-      orElse refuseIf (isUpdate c && ltb (length (s .y)) (reached s c)) 8
+      inOrder
+      (lends s c)
+      (cond (isPush c) (capacityTest (s .n) (s .c)) none)
+      (refusal N (view N s) c)
+      (cond (isUpdate c) (roomTest (reached s c) (length (s .y))) none)
 
 -- ---- the order, computed
 
@@ -128,7 +156,7 @@ pub record RefusalOrder : Type 0 where
   solve-accepted : refuses (lent (whole 1) 1 2 6 3 0 1 2) (solve one) ≡ none
 
 pub refusalOrder : RefusalOrder
-unfolding refuses refusalAt lentTests storageTests workspaceTests refusal diagonals overflows uIndex lent sound narrow bare full one nearest eq ofBits
+unfolding refuses refusalAt dimensionTest sizeTests workspaceTests refusal diagonals overflows uIndex lent sound narrow bare full one nearest eq ofBits
 refusalOrder = record {
   one-before-two = refl;
   two-before-three = refl;
