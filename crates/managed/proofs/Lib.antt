@@ -1,5 +1,6 @@
 pub mod StorageTests
 pub mod Refusals
+pub mod Tested
 pub mod Outcomes
 pub mod Refused
 pub mod Accepted
@@ -7,3 +8,4 @@ pub mod Counted
 pub mod ListClaim
 pub mod Writing
 pub mod Satisfiable
+pub mod Demands

@@ -1,6 +1,6 @@
 -- What holds where tests pass; an instance that has room refuses just what the plain machine refuses; and what an instance has that doesn't refuse a call.
-use mathlib.Core.Path.{_≡_, refl, subst, _∙_}
-use mathlib.Core.Bool.{Bool, true, false, not, _||_, cond}
+use mathlib.Core.Path.{_≡_, refl, sym, _∙_}
+use mathlib.Core.Bool.{Bool, true, false, not, _||_, cond, true≢false}
 use mathlib.Core.Option.{Option, none}
 use Prim.Native.Nat.{ℕ, _+_, _^_, _≤_, _<_}
 use native.Mathlib.Decide.{decLt}
@@ -29,6 +29,7 @@ neither false false t f g = (f tt, g tt)
 -- a dimension, a capacity and lengths that pass 1, 2 and 3
 pub record StoragePassed (n c l u : ℕ) : Type 0 where
   pub dimension : n ≤ c
+  pub size : overflows c ≡ false
   pub capacity : c < 2 ^ 32
   pub L : lLength c ≤ l
   pub U : uLength c ≤ u
@@ -39,16 +40,22 @@ storage-passed n c l u h =
     let one = or-else-none (refuseIf (ltb c n) 1) _ h in
     let two = or-else-none (refuseIf (overflows c) 2) _ (one .1) in
     let three = neither (ltb l (lLength c)) (ltb u (uLength c)) (refuse-if-none (ltb l (lLength c) || ltb u (uLength c)) 3 (two .1)) (nltb→le l (lLength c)) (nltb→le u (uLength c)) in
+    let size = is-false (overflows c) (refuse-if-none (overflows c) 2 (two .0)) in
     record {
       dimension = nltb→le c n (refuse-if-none (ltb c n) 1 (one .0));
-      capacity = within-usize (decLt c (2 ^ 32)) (refuse-if-none (overflows c) 2 (two .0));
+      size = size;
+      capacity = within-usize (decLt c (2 ^ 32)) size;
       L = three .0;
       U = three .1;
     }
   where
-    within-usize : Dec (c < 2 ^ 32) → So (not (overflows c)) → c < 2 ^ 32
+    is-false : (b : Bool) → So (not b) → b ≡ false
+    is-false true h = absurd h
+    is-false false h = refl
+
+    within-usize : Dec (c < 2 ^ 32) → overflows c ≡ false → c < 2 ^ 32
     within-usize (yes b) k = b
-    within-usize (no b) k = absurd (subst (λ (o : Bool). So (not o)) (overflows-from c (omega (arith, b))) k)
+    within-usize (no b) k = absurd (true≢false (sym (overflows-from c (omega (arith, b))) ∙ k))
 
 -- ---- all parts
 

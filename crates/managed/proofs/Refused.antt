@@ -23,7 +23,7 @@ when-numbered : (b : Bool) (o : Option Answer) → Numbered o → Numbered (cond
 when-numbered true o h = h
 when-numbered false o h = none-numbered
 
-storage-numbered : (n c l u : ℕ) → Numbered (storageTests n c l u)
+pub storage-numbered : (n c l u : ℕ) → Numbered (storageTests n c l u)
 unfolding dimensionTest sizeTests
 storage-numbered n c l u =
     either-numbered _ _ (test-numbered (ltb c n) 1 (omega arith))

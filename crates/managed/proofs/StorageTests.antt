@@ -9,25 +9,34 @@ use Rattle.machine.specs.Calls.{refused}
 use Rattle.storage.specs.Places.{lLength, uLength, overflows}
 use Rattle.managed.specs.Refusals.{dimensionTest, sizeTests, storageTests}
 
+module _ (c l u : ℕ) where
+  pub size-overflow : overflows c ≡ true → some (refused 2) ≡ sizeTests c l u
+  unfolding sizeTests
+  size-overflow h = rw h
+
+  module _ (ho : overflows c ≡ false) where
+    pub short-L : l < lLength c → some (refused 3) ≡ sizeTests c l u
+    unfolding sizeTests
+    short-L h = rw (ho, lt-ltb l (lLength c) h)
+
+    pub short-U : u < uLength c → some (refused 3) ≡ sizeTests c l u
+    unfolding sizeTests
+    short-U h = rw (ho, lt-ltb u (uLength c) h, or-true (ltb l (lLength c)))
+
+    pub sizes-pass : lLength c ≤ l → uLength c ≤ u → none ≡ sizeTests c l u
+    unfolding sizeTests
+    sizes-pass h k = rw (ho, le-ltb l (lLength c) h, le-ltb u (uLength c) k)
+
 module _ (n c l u : ℕ) where
   pub invalid-dimension : c < n → some (refused 1) ≡ storageTests n c l u
-  unfolding dimensionTest sizeTests
+  unfolding dimensionTest
   invalid-dimension h = rw (lt-ltb c n h)
 
-  module _ (hn : n ≤ c) where
-    pub size-overflow : overflows c ≡ true → some (refused 2) ≡ storageTests n c l u
-    unfolding dimensionTest sizeTests
-    size-overflow h = rw (le-ltb c n hn, h)
+  -- a dimension within the capacity leaves it to the sizes
+  pub sizes-decide : n ≤ c → sizeTests c l u ≡ storageTests n c l u
+  unfolding dimensionTest
+  sizes-decide h = rw (le-ltb c n h)
 
-    module _ (ho : overflows c ≡ false) where
-      pub short-L : l < lLength c → some (refused 3) ≡ storageTests n c l u
-      unfolding dimensionTest sizeTests
-      short-L h = rw (le-ltb c n hn, ho, lt-ltb l (lLength c) h)
-
-      pub short-U : u < uLength c → some (refused 3) ≡ storageTests n c l u
-      unfolding dimensionTest sizeTests
-      short-U h = rw (le-ltb c n hn, ho, lt-ltb u (uLength c) h, or-true (ltb l (lLength c)))
-
-      pub storage-passes : lLength c ≤ l → uLength c ≤ u → none ≡ storageTests n c l u
-      unfolding dimensionTest sizeTests
-      storage-passes h k = rw (le-ltb c n hn, ho, le-ltb l (lLength c) h, le-ltb u (uLength c) k)
+  pub storage-passes : n ≤ c → overflows c ≡ false → lLength c ≤ l → uLength c ≤ u → none ≡ storageTests n c l u
+  unfolding dimensionTest
+  storage-passes hn ho hl hu = rw (le-ltb c n hn) (sizes-pass c l u ho hl hu)

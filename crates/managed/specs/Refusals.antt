@@ -1,7 +1,7 @@
 -- The refusals of the managed calls, 1 to 10, in document 01's order. Below stand computed lines for that order, one for each two conditions that follow
 -- one another and can hold at once.
 use mathlib.Core.Path.{_≡_, refl}
-use mathlib.Core.Bool.{Bool, not, _&&_, _||_, cond}
+use mathlib.Core.Bool.{Bool, true, false, not, _&&_, _||_, cond}
 use mathlib.Core.List.{List, [], _∷_}
 use mathlib.Core.Option.{Option, none, some}
 use Prim.Native.Nat.{ℕ, _+_, _^_}
@@ -51,6 +51,14 @@ roomTest m y = refuseIf (ltb y m) 8
 -- what the call lends; 4; indices and lengths, with a solve's diagonals behind them; 8. A part that a call does not have is `none`.
 abbrev pub inOrder : Option Answer → Option Answer → Option Answer → Option Answer → Option Answer
 inOrder lent capacity indices room = lent orElse capacity orElse indices orElse room
+
+-- of an update that needs workspace for the dimension m
+abbrev pub updateTests : ℕ → ℕ → LentLengths → Option Answer → Option Answer → ℕ → Option Answer
+updateTests n c lent capacity indices m = inOrder (lentTests true n c lent) capacity indices (roomTest m (lent .y))
+
+-- of a solve, which is lent L and U alone
+abbrev pub solveTestsAt : ℕ → ℕ → ℕ → ℕ → Option Answer → Option Answer
+solveTestsAt n c l u indices = inOrder (lentTests false n c (record { l = l; u = u; y = 0; z = 0; w = 0 })) none indices none
 
 module _ {A : Type 0} where
   -- what the call c is lent, tested

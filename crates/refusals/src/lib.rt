@@ -1,15 +1,21 @@
 // The tests of the managed calls, each in document 01's order. A test only reads.
 ghost use mathlib.Core.Path.{_≡_};
+ghost use mathlib.Core.Bool.{true};
+ghost use mathlib.Core.Option.{none};
+ghost use Prim.Native.Nat.{_+_, _^_, _≤_, _<_};
 ghost use lib.ListN.{length};
 ghost use lib.Ieee.{binary64};
 ghost use Rattle.numbers.specs.NumberForm.{ieee};
 ghost use Rattle.machine.specs.Solves.{diagonals};
+ghost use Rattle.machine.specs.Calls.{_orElse_};
+ghost use Rattle.machine.specs.Machine.{pushTests, replacementTests, removeTests, solveTests};
+ghost use Rattle.storage.specs.Places.{uLength};
 ghost use Rattle.storage.specs.Views.{viewU};
-ghost use Rattle.managed.specs.Refusals.{storageTests};
+ghost use Rattle.managed.specs.Refusals.{sizeTests, storageTests, lentTests, capacityTest, updateTests, solveTestsAt};
 ghost use Rattle.refusals.specs.Refusal.{refusalOf, testOf};
-ghost use Rattle.refusals.specs.Tests.{lentTests, pushTests, replacementTests, removeTests, solveTests};
 use diagonals::Diagonal;
 use diagonals::test_diagonal;
+use managed::LentLengths;
 use storage::RequiredLengths;
 use storage::storage_lengths;
 
@@ -33,22 +39,10 @@ pub enum Test {
     Refused(Refusal),
 }
 
-// The lengths of what an update is lent: L, U and the three workspaces.
-pub struct LentLengths {
-    pub l: usize,
-    pub u: usize,
-    pub y: usize,
-    pub z: usize,
-    pub w: usize,
-}
-
-// 1, 2 and 3 for a dimension, a capacity and the lengths of L and U.
-pub fn test_storage(n: usize, capacity: usize, l: usize, u: usize) -> Test
-    ensures { λ r. ⌜ testOf r ≡ storageTests n capacity l u ⌝ }
+// 2 and 3 for a capacity and the lengths of L and U.
+pub fn test_sizes(capacity: usize, l: usize, u: usize) -> Test
+    ensures { λ r. ⌜ testOf r ≡ sizeTests capacity l u ⌝ }
 {
-    if n > capacity {
-        return Test::Refused(Refusal::InvalidDimension);
-    }
     let required = storage_lengths(capacity);
     let RequiredLengths::Lengths(lengths) = required else {
         return Test::Refused(Refusal::SizeOverflow);
@@ -62,9 +56,19 @@ pub fn test_storage(n: usize, capacity: usize, l: usize, u: usize) -> Test
     Test::Passed
 }
 
+// 1 for the dimension, then 2 and 3.
+pub fn test_storage(n: usize, capacity: usize, l: usize, u: usize) -> Test
+    ensures { λ r. ⌜ testOf r ≡ storageTests n capacity l u ⌝ }
+{
+    if n > capacity {
+        return Test::Refused(Refusal::InvalidDimension);
+    }
+    test_sizes(capacity, l, u)
+}
+
 // What an update lends: 1, 2 and 3 for its storage, then 3 for its workspaces.
 fn test_lent(n: usize, capacity: usize, lent: LentLengths) -> Test
-    ensures { λ r. ⌜ testOf r ≡ lentTests n capacity lent ⌝ }
+    ensures { λ r. ⌜ testOf r ≡ lentTests true n capacity lent ⌝ }
 {
     let storage = test_storage(n, capacity, lent.l, lent.u);
     let Test::Passed = storage else {
@@ -81,7 +85,7 @@ fn test_lent(n: usize, capacity: usize, lent: LentLengths) -> Test
 
 // Push, with the lengths of its row and column: 4, 7, 8.
 pub fn test_push(n: usize, capacity: usize, lent: LentLengths, row: usize, column: usize) -> Test
-    ensures { λ r. ⌜ testOf r ≡ pushTests n capacity lent row column ⌝ }
+    ensures { λ r. ⌜ testOf r ≡ updateTests n capacity lent (capacityTest n capacity) (pushTests n row column) (n + 1) ⌝ }
 {
     let test = test_lent(n, capacity, lent);
     let Test::Passed = test else {
@@ -111,7 +115,7 @@ pub fn test_replacement(
     outside: Refusal,
     values: usize,
 ) -> Test
-    ensures { λ r. ⌜ testOf r ≡ replacementTests n capacity lent index (refusalOf outside) values ⌝ }
+    ensures { λ r. ⌜ testOf r ≡ updateTests n capacity lent none (replacementTests n index (refusalOf outside) values) n ⌝ }
 {
     let test = test_lent(n, capacity, lent);
     let Test::Passed = test else {
@@ -131,7 +135,7 @@ pub fn test_replacement(
 
 // Remove: 5, 6, 8.
 pub fn test_remove(n: usize, capacity: usize, lent: LentLengths, row: usize, column: usize) -> Test
-    ensures { λ r. ⌜ testOf r ≡ removeTests n capacity lent row column ⌝ }
+    ensures { λ r. ⌜ testOf r ≡ updateTests n capacity lent none (removeTests n row column) n ⌝ }
 {
     let test = test_lent(n, capacity, lent);
     let Test::Passed = test else {
@@ -149,9 +153,23 @@ pub fn test_remove(n: usize, capacity: usize, lent: LentLengths, row: usize, col
     Test::Passed
 }
 
+// 9 and 10: the diagonal of U upward, in storage that passed its tests.
+pub fn test_diagonals(n: usize, capacity: usize, u: &[f64]) -> Test
+    requires { ⌜ (n ≤ capacity) × ((capacity < 2 ^ 32) × (uLength capacity ≤ length (now u))) ⌝ }
+    ensures { λ r. ⌜ testOf r ≡ diagonals (ieee binary64) (viewU (ieee binary64) capacity (now (u .entry))) n ⌝ }
+{
+    let found = test_diagonal(n, capacity, u);
+    match found {
+        Diagonal::Sound => Test::Passed,
+        Diagonal::Zero(i) => Test::Refused(Refusal::Singular(i)),
+        Diagonal::NonFinite(i) => Test::Refused(Refusal::NonFiniteDiagonal(i)),
+    }
+}
+
 // Both solves, with the lengths of L and of the right-hand side: 1, 2, 3, 7, then the diagonal upward.
 pub fn test_solve(n: usize, capacity: usize, l: usize, u: &[f64], rhs: usize) -> Test
-    ensures { λ r. ⌜ testOf r ≡ solveTests n capacity l (length (now (u .entry))) rhs (diagonals (ieee binary64) (viewU (ieee binary64) capacity (now (u .entry))) n) ⌝ }
+    ensures { λ r. ⌜ testOf r ≡ solveTestsAt n capacity l (length (now (u .entry)))
+        (solveTests n rhs orElse diagonals (ieee binary64) (viewU (ieee binary64) capacity (now (u .entry))) n) ⌝ }
 {
     let storage = test_storage(n, capacity, l, u.len());
     let Test::Passed = storage else {
@@ -160,10 +178,5 @@ pub fn test_solve(n: usize, capacity: usize, l: usize, u: &[f64], rhs: usize) ->
     if rhs != n {
         return Test::Refused(Refusal::LengthMismatch);
     }
-    let found = test_diagonal(n, capacity, u);
-    match found {
-        Diagonal::Sound => Test::Passed,
-        Diagonal::Zero(i) => Test::Refused(Refusal::Singular(i)),
-        Diagonal::NonFinite(i) => Test::Refused(Refusal::NonFiniteDiagonal(i)),
-    }
+    test_diagonals(n, capacity, u)
 }
