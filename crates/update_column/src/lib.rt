@@ -4,7 +4,6 @@ ghost use Prim.Native.Nat.{_≤_, _<_};
 ghost use lib.ListN.{length};
 ghost use lib.Ieee.{binary64};
 ghost use Rattle.numbers.specs.NumberForm.{ieee};
-ghost use Rattle.numbers.specs.Tolerances.{tinyOf};
 ghost use Rattle.machine.specs.Updates.{columnReplaced};
 ghost use Rattle.machine.specs.Counts.{columnReplacedCount};
 ghost use Rattle.storage.specs.Views.{viewL, viewU};
@@ -28,10 +27,10 @@ pub fn replace_column(
     numerics: Numerics,
 ) -> usize
     requires { ⌜ Room (ieee binary64) stride n (now l) (now u) × ((n ≤ length (now y)) × ((n ≤ length (now z)) × ((n ≤ length (now w)) × (column < n)))) ⌝ }
-    ensures { λ r. ⌜ Updated (ieee binary64) stride n n (columnReplaced (ieee binary64) (numerics .epsilon) (tinyOf binary64 (numerics .epsilon) (numerics .«update_tiny»)) n
+    ensures { λ r. ⌜ Updated (ieee binary64) stride n n (columnReplaced (ieee binary64) (numerics .epsilon) (numerics .tiny) n
         (viewL (ieee binary64) stride (now (l .entry))) (viewU (ieee binary64) stride (now (u .entry))) column (now (z .entry)))
         (now (l .entry)) (now (u .entry)) (now (y .entry)) (now (z .entry)) (now (w .entry)) (now (l .exit)) (now (u .exit)) (now (y .exit)) (now (z .entry)) (now (w .exit))
-        × (r ≡ columnReplacedCount (ieee binary64) (numerics .epsilon) (tinyOf binary64 (numerics .epsilon) (numerics .«update_tiny»)) n
+        × (r ≡ columnReplacedCount (ieee binary64) (numerics .epsilon) (numerics .tiny) n
         (viewL (ieee binary64) stride (now (l .entry))) (viewU (ieee binary64) stride (now (u .entry))) column (now (z .entry))) ⌝ }
 {
     l_product(n, stride, l, z, w);

@@ -4,7 +4,6 @@ ghost use Prim.Native.Nat.{_-_, _≤_, _<_};
 ghost use lib.ListN.{length};
 ghost use lib.Ieee.{binary64};
 ghost use Rattle.numbers.specs.NumberForm.{ieee};
-ghost use Rattle.numbers.specs.Tolerances.{tinyOf};
 ghost use Rattle.machine.specs.Products.{entry};
 ghost use Rattle.machine.specs.Updates.{pushed};
 ghost use Rattle.machine.specs.Counts.{pushedCount};
@@ -32,10 +31,10 @@ pub fn push(
     numerics: Numerics,
 ) -> usize
     requires { ⌜ Room (ieee binary64) stride n (now l) (now u) × ((n ≤ length (now y)) × ((n - 1 ≤ length (now z)) × ((n - 1 ≤ length (now w)) × (0 < n)))) ⌝ }
-    ensures { λ r. ⌜ Updated (ieee binary64) stride n n (pushed (ieee binary64) (numerics .epsilon) (tinyOf binary64 (numerics .epsilon) (numerics .«update_tiny»)) (n - 1)
+    ensures { λ r. ⌜ Updated (ieee binary64) stride n n (pushed (ieee binary64) (numerics .epsilon) (numerics .tiny) (n - 1)
         (viewL (ieee binary64) stride (now (l .entry))) (viewU (ieee binary64) stride (now (u .entry))) (now (y .entry)) (now (z .entry)) (entry (ieee binary64) (now (y .entry)) (n - 1)))
         (now (l .entry)) (now (u .entry)) (now (y .entry)) (now (z .entry)) (now (w .entry)) (now (l .exit)) (now (u .exit)) (now (y .exit)) (now (z .entry)) (now (w .exit))
-        × (r ≡ pushedCount (ieee binary64) (numerics .epsilon) (tinyOf binary64 (numerics .epsilon) (numerics .«update_tiny»)) (n - 1)
+        × (r ≡ pushedCount (ieee binary64) (numerics .epsilon) (numerics .tiny) (n - 1)
         (viewL (ieee binary64) stride (now (l .entry))) (viewU (ieee binary64) stride (now (u .entry))) (now (y .entry)) (now (z .entry)) (entry (ieee binary64) (now (y .entry)) (n - 1))) ⌝ }
 {
     let last = n - 1;

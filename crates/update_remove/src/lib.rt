@@ -4,7 +4,6 @@ ghost use Prim.Native.Nat.{_-_, _≤_, _<_};
 ghost use lib.ListN.{length};
 ghost use lib.Ieee.{binary64};
 ghost use Rattle.numbers.specs.NumberForm.{ieee};
-ghost use Rattle.numbers.specs.Tolerances.{tinyOf};
 ghost use Rattle.machine.specs.Updates.{removed};
 ghost use Rattle.machine.specs.Counts.{removedCount};
 ghost use Rattle.storage.specs.Views.{viewL, viewU};
@@ -31,10 +30,10 @@ pub fn remove(
     numerics: Numerics,
 ) -> usize
     requires { ⌜ Room (ieee binary64) stride n (now l) (now u) × ((n ≤ length (now y)) × ((n ≤ length (now z)) × ((n ≤ length (now w)) × ((row < n) × (column < n))))) ⌝ }
-    ensures { λ r. ⌜ Updated (ieee binary64) stride n (n - 1) (removed (ieee binary64) (numerics .epsilon) (tinyOf binary64 (numerics .epsilon) (numerics .«update_tiny»)) (n - 1)
+    ensures { λ r. ⌜ Updated (ieee binary64) stride n (n - 1) (removed (ieee binary64) (numerics .epsilon) (numerics .tiny) (n - 1)
         (viewL (ieee binary64) stride (now (l .entry))) (viewU (ieee binary64) stride (now (u .entry))) row column)
         (now (l .entry)) (now (u .entry)) (now (y .entry)) (now (z .entry)) (now (w .entry)) (now (l .exit)) (now (u .exit)) (now (y .exit)) (now (z .exit)) (now (w .exit))
-        × (r ≡ removedCount (ieee binary64) (numerics .epsilon) (tinyOf binary64 (numerics .epsilon) (numerics .«update_tiny»)) (n - 1)
+        × (r ≡ removedCount (ieee binary64) (numerics .epsilon) (numerics .tiny) (n - 1)
         (viewL (ieee binary64) stride (now (l .entry))) (viewU (ieee binary64) stride (now (u .entry))) row column) ⌝ }
 {
     let column_steps = drop_column(column, n, stride, l, u, y, w, numerics);

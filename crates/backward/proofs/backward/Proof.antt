@@ -5,7 +5,6 @@ use Prim.Native.Nat.{_-_}
 use native.Mathlib.Omega.{arith}
 use lib.Ieee.{binary64}
 use Rattle.numbers.specs.NumberForm.{ieee}
-use Rattle.numbers.specs.Tolerances.{tinyOf}
 use Rattle.machine.specs.Backward.{backward}
 use Rattle.machine.specs.Counts.{backwardCount}
 use Rattle.machine.proofs.Choice.{within-from}
@@ -79,8 +78,8 @@ returns c =
       performed-then (ieee binary64)
           copied
           (backward-rows .ensures .0) (omega arith)
-          (λ S R h. within-from (omega arith) (backward-rows-same (ieee binary64) (a .numerics .epsilon) (tinyOf binary64 (a .numerics .epsilon) (a .numerics .«update_tiny»)) (a .n) (a .columns) (omega arith) (a .selected) (a .selected - a .first) (omega arith) (omega arith) h)),
-      backward-rows .ensures .1 ∙ backward-rows-count-same (ieee binary64) (a .numerics .epsilon) (tinyOf binary64 (a .numerics .epsilon) (a .numerics .«update_tiny»)) (a .n) (a .columns) (omega arith) (a .selected) (a .selected - a .first) (omega arith) (omega arith) (copied .agree),
+          (λ S R h. within-from (omega arith) (backward-rows-same (ieee binary64) (a .numerics .epsilon) (a .numerics .tiny) (a .n) (a .columns) (omega arith) (a .selected) (a .selected - a .first) (omega arith) (omega arith) h)),
+      backward-rows .ensures .1 ∙ backward-rows-count-same (ieee binary64) (a .numerics .epsilon) (a .numerics .tiny) (a .n) (a .columns) (omega arith) (a .selected) (a .selected - a .first) (omega arith) (omega arith) (copied .agree),
     )
 
 pub backward-spec : {M : Type 1} → statement M

@@ -5,7 +5,6 @@ use native.Mathlib.Omega.{arith}
 use lib.Ieee.{binary64}
 use denote.Ref.{now}
 use Rattle.numbers.specs.NumberForm.{ieee}
-use Rattle.numbers.specs.Tolerances.{tinyOf}
 use Rattle.machine.specs.Backward.{backwardRow, backwardRows}
 use Rattle.machine.specs.Counts.{backwardRowsCount}
 use Rattle.machine.proofs.Backward.{backward-row-same}
@@ -17,8 +16,8 @@ use Rattle.backward.proofs.backward_rows.Statement.{statement}
 use Rattle.backward.proofs.backward_rows.Tie as tie
 
 abbrev Inv-loop : tie.InvT-loop
-Inv-loop first selected n columns stride l₀ u₀ y₀ v₀ numerics steps₀ row₀ l u y v steps row = (first ≤ row) × ((row ≤ selected) × (Performed (ieee binary64) stride n row columns n (backwardRows (ieee binary64) (numerics .epsilon) (tinyOf binary64 (numerics .epsilon) (numerics .«update_tiny»)) selected columns (selected - row)) l₀ u₀ y₀ v₀ l u y v
-    × (steps ≡ backwardRowsCount (ieee binary64) (numerics .epsilon) (tinyOf binary64 (numerics .epsilon) (numerics .«update_tiny»)) selected columns (selected - row) (workOf (ieee binary64) stride l₀ u₀ y₀ v₀))))
+Inv-loop first selected n columns stride l₀ u₀ y₀ v₀ numerics steps₀ row₀ l u y v steps row = (first ≤ row) × ((row ≤ selected) × (Performed (ieee binary64) stride n row columns n (backwardRows (ieee binary64) (numerics .epsilon) (numerics .tiny) selected columns (selected - row)) l₀ u₀ y₀ v₀ l u y v
+    × (steps ≡ backwardRowsCount (ieee binary64) (numerics .epsilon) (numerics .tiny) selected columns (selected - row) (workOf (ieee binary64) stride l₀ u₀ y₀ v₀))))
 
 abbrev μ-loop : tie.MeasureT-loop
 μ-loop first selected n columns stride l₀ u₀ y₀ v₀ numerics steps₀ row₀ l u y v steps row = row
@@ -44,7 +43,7 @@ add-steps c =
     let row = let t : tie.After-backward-row Inv-loop μ-loop = search in t .backward-row in
     let a = start .args in
     let p = start .pre in
-    omega (arith, loop .inv .1 .1 .1, backward-rows-count-le (ieee binary64) (a .numerics .epsilon) (tinyOf binary64 (a .numerics .epsilon) (a .numerics .«update_tiny»)) (a .selected) (a .columns) (a .selected - loop .row) (workOf (ieee binary64) (a .stride) (now (a .l)) (now (a .u)) (now (a .y)) (now (a .v))), row .ensures .1, backward-row-count-le (ieee binary64) (a .numerics .epsilon) (a .selected) (loop .row - 1) (workOf (ieee binary64) (a .stride) (loop .l) (loop .u) (loop .y) (loop .v)))
+    omega (arith, loop .inv .1 .1 .1, backward-rows-count-le (ieee binary64) (a .numerics .epsilon) (a .numerics .tiny) (a .selected) (a .columns) (a .selected - loop .row) (workOf (ieee binary64) (a .stride) (now (a .l)) (now (a .u)) (now (a .y)) (now (a .v))), row .ensures .1, backward-row-count-le (ieee binary64) (a .numerics .epsilon) (a .selected) (loop .row - 1) (workOf (ieee binary64) (a .stride) (loop .l) (loop .u) (loop .y) (loop .v)))
 
 loop-less : tie.Need-loop-less Inv-loop μ-loop
 loop-less c = omega arith
@@ -61,11 +60,11 @@ loop-again c =
         omega arith,
         (
           performed-as (ieee binary64)
-              (λ S. backwardRow (ieee binary64) (a .numerics .epsilon) (tinyOf binary64 (a .numerics .epsilon) (a .numerics .«update_tiny»)) (a .selected) (a .columns) (loop .row - 1) (backwardRows (ieee binary64) (a .numerics .epsilon) (tinyOf binary64 (a .numerics .epsilon) (a .numerics .«update_tiny»)) (a .selected) (a .columns) (a .selected - loop .row) S))
-              (backward-rows-more (ieee binary64) (a .numerics .epsilon) (tinyOf binary64 (a .numerics .epsilon) (a .numerics .«update_tiny»)) (a .selected) (a .columns) (loop .row) _ (omega arith) (h .1 .0))
+              (λ S. backwardRow (ieee binary64) (a .numerics .epsilon) (a .numerics .tiny) (a .selected) (a .columns) (loop .row - 1) (backwardRows (ieee binary64) (a .numerics .epsilon) (a .numerics .tiny) (a .selected) (a .columns) (a .selected - loop .row) S))
+              (backward-rows-more (ieee binary64) (a .numerics .epsilon) (a .numerics .tiny) (a .selected) (a .columns) (loop .row) _ (omega arith) (h .1 .0))
               (performed-then (ieee binary64) (h .1 .1 .0) (backward-row .ensures .0) (omega arith)
-              (λ S R. backward-row-same (ieee binary64) (a .numerics .epsilon) (tinyOf binary64 (a .numerics .epsilon) (a .numerics .«update_tiny»)) (a .n) (a .columns) (omega arith) (a .selected) (loop .row - 1) (loop .row) (omega arith) (omega arith) (omega arith))),
-          backward-count-more (ieee binary64) (a .numerics .epsilon) (tinyOf binary64 (a .numerics .epsilon) (a .numerics .«update_tiny»)) (a .selected) (a .columns) (a .n) (loop .row) _ (omega arith) (omega arith) (h .1 .0) (omega arith) (h .1 .1 .1) (h .1 .1 .0 .agree) (backward-row .ensures .1),
+              (λ S R. backward-row-same (ieee binary64) (a .numerics .epsilon) (a .numerics .tiny) (a .n) (a .columns) (omega arith) (a .selected) (loop .row - 1) (loop .row) (omega arith) (omega arith) (omega arith))),
+          backward-count-more (ieee binary64) (a .numerics .epsilon) (a .numerics .tiny) (a .selected) (a .columns) (a .n) (loop .row) _ (omega arith) (omega arith) (h .1 .0) (omega arith) (h .1 .1 .1) (h .1 .1 .0 .agree) (backward-row .ensures .1),
         ),
       ),
     )

@@ -6,7 +6,6 @@ use lib.Ieee.{binary64}
 use denote.Ref.{now}
 use mathlib.Core.List.{[]}
 use Rattle.numbers.specs.NumberForm.{ieee}
-use Rattle.numbers.specs.Tolerances.{tinyOf}
 use Rattle.machine.specs.Forward.{forwardRow, forwardRows, forward}
 use Rattle.machine.specs.Counts.{forwardRowsCount, forwardCount}
 use Rattle.machine.proofs.Forward.{forward-row-same, copy-dense-same}
@@ -19,8 +18,8 @@ use Rattle.forward.proofs.forward.Statement.{statement}
 use Rattle.forward.proofs.forward.Tie as tie
 
 abbrev Inv-loop : tie.InvT-loop
-Inv-loop first last n columns stride l₀ u₀ y₀ numerics steps₀ row₀ l u y steps row = (first ≤ row) × ((row ≤ last) × (Performed (ieee binary64) stride n 0 columns 0 (forwardRows (ieee binary64) (numerics .epsilon) (tinyOf binary64 (numerics .epsilon) (numerics .«update_tiny»)) first last columns (row - first)) l₀ u₀ y₀ [] l u y []
-    × (steps ≡ forwardRowsCount (ieee binary64) (numerics .epsilon) (tinyOf binary64 (numerics .epsilon) (numerics .«update_tiny»)) first last columns (row - first) (workOf (ieee binary64) stride l₀ u₀ y₀ []))))
+Inv-loop first last n columns stride l₀ u₀ y₀ numerics steps₀ row₀ l u y steps row = (first ≤ row) × ((row ≤ last) × (Performed (ieee binary64) stride n 0 columns 0 (forwardRows (ieee binary64) (numerics .epsilon) (numerics .tiny) first last columns (row - first)) l₀ u₀ y₀ [] l u y []
+    × (steps ≡ forwardRowsCount (ieee binary64) (numerics .epsilon) (numerics .tiny) first last columns (row - first) (workOf (ieee binary64) stride l₀ u₀ y₀ []))))
 
 abbrev μ-loop : tie.MeasureT-loop
 μ-loop first last n columns stride l₀ u₀ y₀ numerics steps₀ row₀ l u y steps row = last - row
@@ -44,7 +43,7 @@ add-steps c =
     let row = let t : tie.After-forward-row Inv-loop μ-loop = search in t .forward-row in
     let a = start .args in
     let p = start .pre in
-    omega (arith, loop .inv .1 .1 .1, forward-rows-count-le (ieee binary64) (a .numerics .epsilon) (tinyOf binary64 (a .numerics .epsilon) (a .numerics .«update_tiny»)) (a .first) (a .last) (a .columns) (loop .row - a .first) (workOf (ieee binary64) (a .stride) (now (a .l)) (now (a .u)) (now (a .y)) []), row .ensures .1, forward-row-count-le (ieee binary64) (a .numerics .epsilon) (loop .row) (workOf (ieee binary64) (a .stride) (loop .l) (loop .u) (loop .y) []))
+    omega (arith, loop .inv .1 .1 .1, forward-rows-count-le (ieee binary64) (a .numerics .epsilon) (a .numerics .tiny) (a .first) (a .last) (a .columns) (loop .row - a .first) (workOf (ieee binary64) (a .stride) (now (a .l)) (now (a .u)) (now (a .y)) []), row .ensures .1, forward-row-count-le (ieee binary64) (a .numerics .epsilon) (loop .row) (workOf (ieee binary64) (a .stride) (loop .l) (loop .u) (loop .y) []))
 
 add-row : tie.Need-add-row Inv-loop μ-loop
 add-row c = omega arith
@@ -64,11 +63,11 @@ loop-again c =
         omega arith,
         (
           performed-as (ieee binary64)
-              (λ S. forwardRow (ieee binary64) (a .numerics .epsilon) (tinyOf binary64 (a .numerics .epsilon) (a .numerics .«update_tiny»)) (a .last) (a .columns) (loop .row) (forwardRows (ieee binary64) (a .numerics .epsilon) (tinyOf binary64 (a .numerics .epsilon) (a .numerics .«update_tiny»)) (a .first) (a .last) (a .columns) (loop .row - a .first) S))
-              (forward-rows-more (ieee binary64) (a .numerics .epsilon) (tinyOf binary64 (a .numerics .epsilon) (a .numerics .«update_tiny»)) (a .first) (a .last) (a .columns) (loop .row) _ (h .0))
+              (λ S. forwardRow (ieee binary64) (a .numerics .epsilon) (a .numerics .tiny) (a .last) (a .columns) (loop .row) (forwardRows (ieee binary64) (a .numerics .epsilon) (a .numerics .tiny) (a .first) (a .last) (a .columns) (loop .row - a .first) S))
+              (forward-rows-more (ieee binary64) (a .numerics .epsilon) (a .numerics .tiny) (a .first) (a .last) (a .columns) (loop .row) _ (h .0))
               (performed-then (ieee binary64) (h .1 .1 .0) (e .0) (omega arith)
-              (λ S R. forward-row-same (ieee binary64) (a .numerics .epsilon) (tinyOf binary64 (a .numerics .epsilon) (a .numerics .«update_tiny»)) (a .n) (a .columns) 0 (omega arith) (a .last) (loop .row) 0 (omega arith) (omega arith) (omega arith))),
-          forward-count-more (ieee binary64) (a .numerics .epsilon) (tinyOf binary64 (a .numerics .epsilon) (a .numerics .«update_tiny»)) (a .first) (a .last) (a .columns) (a .n) (loop .row) _ (omega arith) (h .0) (omega arith) (h .1 .1 .1) (h .1 .1 .0 .agree) (e .1),
+              (λ S R. forward-row-same (ieee binary64) (a .numerics .epsilon) (a .numerics .tiny) (a .n) (a .columns) 0 (omega arith) (a .last) (loop .row) 0 (omega arith) (omega arith) (omega arith))),
+          forward-count-more (ieee binary64) (a .numerics .epsilon) (a .numerics .tiny) (a .first) (a .last) (a .columns) (a .n) (loop .row) _ (omega arith) (h .0) (omega arith) (h .1 .1 .1) (h .1 .1 .0 .agree) (e .1),
         ),
       ),
     )
@@ -119,7 +118,7 @@ returns c =
       performed-then (ieee binary64) (rw e at (loop .inv .1 .1 .0))
           (dense-copied (ieee binary64) (a .stride) (a .n) (a .columns) (a .last) (d .result) _ _ _ (omega arith) (omega arith) (omega arith) (d .ensures .0) (copy .ensures))
           (omega arith)
-          (λ S R. copy-dense-same (ieee binary64) (a .numerics .epsilon) (tinyOf binary64 (a .numerics .epsilon) (a .numerics .«update_tiny»)) (a .n) (a .columns) 0 (omega arith) (a .last) 0 (omega arith)),
+          (λ S R. copy-dense-same (ieee binary64) (a .numerics .epsilon) (a .numerics .tiny) (a .n) (a .columns) 0 (omega arith) (a .last) 0 (omega arith)),
       rw e at (loop .inv .1 .1 .1),
     )
 

@@ -7,7 +7,6 @@ use lib.Ieee.{binary64}
 use lib.ListN.{length-set}
 use denote.Ref.{now}
 use Rattle.numbers.specs.NumberForm.{ieee}
-use Rattle.numbers.specs.Tolerances.{tinyOf}
 use native.Mathlib.Numerals.{add-one}
 use Rattle.machine.specs.Products.{entry}
 use Rattle.stages.proofs.StageLaws.{forward-counted-le, backward-counted-le, restored-outcome}
@@ -86,8 +85,8 @@ add-result c =
     let a = way m .start .args in
     let p = way m .start .pre in
     let e = after-trim .ensures in
-    let b = backward-counted-le (ieee binary64) (a .numerics .epsilon) (tinyOf binary64 (a .numerics .epsilon) (a .numerics .«update_tiny»)) _ _ _ _ (after-backward .ensures .1) in
-    let f = forward-counted-le (ieee binary64) (a .numerics .epsilon) (tinyOf binary64 (a .numerics .epsilon) (a .numerics .«update_tiny»)) _ _ _ _ (forward .ensures .1) in
+    let b = backward-counted-le (ieee binary64) (a .numerics .epsilon) (a .numerics .tiny) _ _ _ _ (after-backward .ensures .1) in
+    let f = forward-counted-le (ieee binary64) (a .numerics .epsilon) (a .numerics .tiny) _ _ _ _ (forward .ensures .1) in
     omega arith
 
 same-length : tie.Need-same-length
@@ -117,7 +116,7 @@ returns c =
     let k = after-backward .ensures .0 .y-kept .long in
     let is-s = rw add-one at (after-trim .ensures .0) in
     let performed = rw add-one at (after-backward .ensures .0) in
-    restored-outcome (ieee binary64) (a .numerics .epsilon) (tinyOf binary64 (a .numerics .epsilon) (a .numerics .«update_tiny»)) (a .stride) (a .n) (a .column) (a .last) (a .columns)
+    restored-outcome (ieee binary64) (a .numerics .epsilon) (a .numerics .tiny) (a .stride) (a .n) (a .column) (a .last) (a .columns)
     (after-trim .result) _ _ _ (now (a .w)) _ _ (omega arith) (omega (arith, p, k)) (omega arith) (omega arith) (omega arith)
     is-s performed (rw add-one at (after-backward .ensures .1)) (forward .ensures)
 

@@ -7,7 +7,6 @@ use lib.Ieee.{binary64}
 use lib.ListN.{length-set}
 use denote.Ref.{now}
 use Rattle.numbers.specs.NumberForm.{ieee}
-use Rattle.numbers.specs.Tolerances.{tinyOf}
 use Rattle.update_push.proofs.Border.{push-outcome}
 use Rattle.update_push.proofs.push.Statement.{statement}
 use Rattle.update_push.proofs.push.Tie as tie
@@ -92,7 +91,7 @@ returns c =
     let a = way t .start .args in
     let p = way t .start .pre in
     let k = write-u-column .ensures .kept .long in
-    push-outcome (ieee binary64) (a .numerics .epsilon) (tinyOf binary64 (a .numerics .epsilon) (a .numerics .«update_tiny»)) (a .stride) (a .n) (u-index .result) (now (a .l)) (now (a .u)) (now (a .y))
+    push-outcome (ieee binary64) (a .numerics .epsilon) (a .numerics .tiny) (a .stride) (a .n) (u-index .result) (now (a .l)) (now (a .u)) (now (a .y))
     (now (a .z)) (now (a .w)) _ _ _ _ (omega arith) (omega arith) (way t .product .l-product .ensures) (way t .cleared .clear-l-column .ensures)
     (way t .unit .set-unit-row .ensures) (write-u-column .ensures) (u-index .ensures .0) (omega arith) (forward .ensures)
 

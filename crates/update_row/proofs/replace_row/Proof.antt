@@ -6,7 +6,6 @@ use native.Mathlib.Omega.{arith}
 use lib.Ieee.{binary64}
 use denote.Ref.{now}
 use Rattle.numbers.specs.NumberForm.{ieee}
-use Rattle.numbers.specs.Tolerances.{tinyOf}
 use Rattle.stages.proofs.StageLaws.{forward-counted-le, backward-counted-le}
 use Rattle.update_row.proofs.RowReplaced.{replace-row-outcome}
 use Rattle.update_row.proofs.replace_row.Statement.{statement}
@@ -81,8 +80,8 @@ add-result c =
     let a = way t .start .args in
     let p = way t .start .pre in
     let e = t .trim .ensures in
-    let k = backward-counted-le (ieee binary64) (a .numerics .epsilon) (tinyOf binary64 (a .numerics .epsilon) (a .numerics .«update_tiny»)) _ _ _ _ (b .backward .ensures .1) in
-    let f = forward-counted-le (ieee binary64) (a .numerics .epsilon) (tinyOf binary64 (a .numerics .epsilon) (a .numerics .«update_tiny»)) _ _ _ _ (n .forward .ensures .1) in
+    let k = backward-counted-le (ieee binary64) (a .numerics .epsilon) (a .numerics .tiny) _ _ _ _ (b .backward .ensures .1) in
+    let f = forward-counted-le (ieee binary64) (a .numerics .epsilon) (a .numerics .tiny) _ _ _ _ (n .forward .ensures .1) in
     omega arith
 
 same-length : tie.Need-same-length
@@ -118,7 +117,7 @@ returns c =
     let w = way t in
     let a = w .start .args in
     let p = w .start .pre in
-    replace-row-outcome (ieee binary64) (a .numerics .epsilon) (tinyOf binary64 (a .numerics .epsilon) (a .numerics .«update_tiny»)) (a .stride) (a .n) (a .row) (t .trim .result) (now (a .l))
+    replace-row-outcome (ieee binary64) (a .numerics .epsilon) (a .numerics .tiny) (a .stride) (a .n) (a .row) (t .trim .result) (now (a .l))
     (now (a .u)) (now (a .y)) (now (a .z)) (now (a .w)) _ _ (omega (arith, p)) (omega (arith, p))
     (w .read .read-l-column .ensures) (w .cleared .clear-l-column .ensures) (t .trim .ensures .0) (b .backward .ensures .0) (u .set-unit-row .ensures) (f .forward .ensures .0)
     (b .backward .ensures .1) (f .forward .ensures .1)
