@@ -48,23 +48,23 @@ backward-rows-requires c κs =
 same-length : tie.Need-same-length
 same-length c =
     let backward-rows = let t : tie.After-backward-rows = search in t .backward-rows in
-    backward-rows .ensures .0 .l-kept .long
+    backward-rows .ensures .0 .frame .l-kept .long
 
 same-length-2 : tie.Need-same-length-2
 same-length-2 c =
     let backward-rows = let t : tie.After-backward-rows = search in t .backward-rows in
-    backward-rows .ensures .0 .u-kept .long
+    backward-rows .ensures .0 .frame .u-kept .long
 
 same-length-3 : tie.Need-same-length-3
 same-length-3 c =
     let backward-rows = let t : tie.After-backward-rows = search in t .backward-rows in
     let copy = let t : tie.After-copy = search in t .copy in
-    backward-rows .ensures .0 .y-kept .long ∙ copy .ensures .kept .long
+    backward-rows .ensures .0 .frame .y-kept .long ∙ copy .ensures .kept .long
 
 same-length-4 : tie.Need-same-length-4
 same-length-4 c =
     let backward-rows = let t : tie.After-backward-rows = search in t .backward-rows in
-    backward-rows .ensures .0 .v-kept .long
+    backward-rows .ensures .0 .frame .w-kept .long
 
 returns : tie.Need-returns
 unfolding backward backwardCount way

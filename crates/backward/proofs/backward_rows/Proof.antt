@@ -10,7 +10,7 @@ use Rattle.machine.specs.Counts.{backwardRowsCount}
 use Rattle.machine.proofs.Backward.{backward-row-same}
 use Rattle.machine.proofs.CountLimits.{backward-row-count-le, backward-rows-count-le}
 use Rattle.buffers.specs.Performed.{workOf, Performed}
-use Rattle.buffers.proofs.Buffers.{performed-none, performed-then, performed-as}
+use Rattle.buffers.proofs.Buffers.{room-kept, performed-none, performed-then, performed-as}
 use Rattle.backward.proofs.Rows.{backward-rows-none, backward-rows-more, backward-count-none, backward-count-more}
 use Rattle.backward.proofs.backward_rows.Statement.{statement}
 use Rattle.backward.proofs.backward_rows.Tie as tie
@@ -31,9 +31,9 @@ sub-row c = omega arith
 backward-row-requires : tie.Need-backward-row-requires Inv-loop μ-loop
 backward-row-requires c κs =
     let p = let s : tie.Start Inv-loop μ-loop = search in s .pre in
-    let k = let t : tie.At-loop Inv-loop μ-loop = search in t .loop .inv .1 .1 .0 in (
-      record { stride = p .0 .stride; dimension = p .0 .dimension; l-long = rw (k .l-kept .long) (p .0 .l-long); u-long = rw (k .u-kept .long) (p .0 .u-long) },
-      (rw (k .y-kept .long) (p .1 .0), (rw (k .v-kept .long) (p .1 .1 .0), omega arith)),
+    let k = let t : tie.At-loop Inv-loop μ-loop = search in t .loop .inv .1 .1 .0 .frame in (
+      room-kept (ieee binary64) (p .0) (k .l-kept .long) (k .u-kept .long),
+      (rw (k .y-kept .long) (p .1 .0), (rw (k .w-kept .long) (p .1 .1 .0), omega arith)),
     )
 
 add-steps : tie.Need-add-steps Inv-loop μ-loop
@@ -70,16 +70,16 @@ loop-again c =
     )
 
 same-length : tie.Need-same-length Inv-loop μ-loop
-same-length c = c .before .loop .inv .1 .1 .0 .l-kept .long
+same-length c = c .before .loop .inv .1 .1 .0 .frame .l-kept .long
 
 same-length-2 : tie.Need-same-length-2 Inv-loop μ-loop
-same-length-2 c = c .before .loop .inv .1 .1 .0 .u-kept .long
+same-length-2 c = c .before .loop .inv .1 .1 .0 .frame .u-kept .long
 
 same-length-3 : tie.Need-same-length-3 Inv-loop μ-loop
-same-length-3 c = c .before .loop .inv .1 .1 .0 .y-kept .long
+same-length-3 c = c .before .loop .inv .1 .1 .0 .frame .y-kept .long
 
 same-length-4 : tie.Need-same-length-4 Inv-loop μ-loop
-same-length-4 c = c .before .loop .inv .1 .1 .0 .v-kept .long
+same-length-4 c = c .before .loop .inv .1 .1 .0 .frame .w-kept .long
 
 returns : tie.Need-returns Inv-loop μ-loop
 returns c =

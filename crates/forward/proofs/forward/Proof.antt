@@ -12,7 +12,7 @@ use Rattle.machine.proofs.Forward.{forward-row-same, copy-dense-same}
 use Rattle.machine.proofs.CountLimits.{forward-row-count-le, forward-rows-count-le}
 use Rattle.ranges.proofs.RowParts.{part-fits}
 use Rattle.buffers.specs.Performed.{workOf, Performed}
-use Rattle.buffers.proofs.Buffers.{performed-none, performed-then, performed-as}
+use Rattle.buffers.proofs.Buffers.{room-kept, performed-none, performed-then, performed-as}
 use Rattle.forward.proofs.Rows.{forward-rows-none, forward-rows-more, forward-count-none, forward-count-more, dense-copied}
 use Rattle.forward.proofs.forward.Statement.{statement}
 use Rattle.forward.proofs.forward.Tie as tie
@@ -31,8 +31,8 @@ forward-row-requires : tie.Need-forward-row-requires Inv-loop μ-loop
 forward-row-requires c κs =
     let p = let s : tie.Start Inv-loop μ-loop = search in s .pre in
     let h = let t : tie.At-loop Inv-loop μ-loop = search in t .loop .inv in
-    let k = h .1 .1 .0 in (
-      record { stride = p .0 .stride; dimension = p .0 .dimension; l-long = rw (k .l-kept .long) (p .0 .l-long); u-long = rw (k .u-kept .long) (p .0 .u-long) },
+    let k = h .1 .1 .0 .frame in (
+      room-kept (ieee binary64) (p .0) (k .l-kept .long) (k .u-kept .long),
       (rw (k .y-kept .long) (p .1 .0), omega arith),
     )
 
@@ -83,7 +83,7 @@ copy-requires c κs =
     let start : tie.Start Inv-loop μ-loop = search in
     let a = start .args in
     let p = start .pre in
-    let k = let t : tie.At-loop Inv-loop μ-loop = search in t .loop .inv .1 .1 .0 in
+    let k = let t : tie.At-loop Inv-loop μ-loop = search in t .loop .inv .1 .1 .0 .frame in
     let d = let t : tie.After-u-index Inv-loop μ-loop = search in t .u-index in
     let e = k .u-kept .long in
     let f = k .y-kept .long in
@@ -92,18 +92,18 @@ copy-requires c κs =
 same-length : tie.Need-same-length Inv-loop μ-loop
 same-length c =
     let loop = let t : tie.At-loop Inv-loop μ-loop = search in t .loop in
-    loop .inv .1 .1 .0 .l-kept .long
+    loop .inv .1 .1 .0 .frame .l-kept .long
 
 same-length-2 : tie.Need-same-length-2 Inv-loop μ-loop
 same-length-2 c =
     let copy = let t : tie.After-copy Inv-loop μ-loop = search in t .copy in
     let loop = let t : tie.At-loop Inv-loop μ-loop = search in t .loop in
-    copy .ensures .kept .long ∙ loop .inv .1 .1 .0 .u-kept .long
+    copy .ensures .kept .long ∙ loop .inv .1 .1 .0 .frame .u-kept .long
 
 same-length-3 : tie.Need-same-length-3 Inv-loop μ-loop
 same-length-3 c =
     let loop = let t : tie.At-loop Inv-loop μ-loop = search in t .loop in
-    loop .inv .1 .1 .0 .y-kept .long
+    loop .inv .1 .1 .0 .frame .y-kept .long
 
 returns : tie.Need-returns Inv-loop μ-loop
 unfolding forward forwardCount

@@ -7,6 +7,7 @@ use lib.Ieee.{binary64}
 use lib.ListN.{length-set}
 use denote.Ref.{now}
 use Rattle.numbers.specs.NumberForm.{ieee}
+use Rattle.buffers.proofs.Buffers.{room-kept}
 use Rattle.update_push.proofs.Border.{push-outcome}
 use Rattle.update_push.proofs.push.Statement.{statement}
 use Rattle.update_push.proofs.push.Tie as tie
@@ -61,8 +62,8 @@ forward-requires c κs =
     let t : tie.After-write-u-column = search in
     let a = way t .start .args in
     let p = way t .start .pre in (
-      record
-          { stride = p .0 .stride; dimension = p .0 .dimension; l-long = rw (way t .unit .set-unit-row .ensures .kept .long, way t .cleared .clear-l-column .ensures .kept .long) (p .0 .l-long); u-long = rw (length-set, t .write-u-column .ensures .kept .long) (p .0 .u-long) },
+      room-kept (ieee binary64) (p .0) (way t .unit .set-unit-row .ensures .kept .long ∙ way t .cleared .clear-l-column .ensures .kept .long)
+          (rw length-set (t .write-u-column .ensures .kept .long)),
       (omega arith, (omega arith, (omega arith, (omega arith, omega arith)))),
     )
 
@@ -73,7 +74,7 @@ same-length-2 : tie.Need-same-length-2
 same-length-2 c =
     let forward = let t : tie.After-forward = search in t .forward in
     let write-u-column = let t : tie.After-write-u-column = search in t .write-u-column in
-    rw length-set at (forward .ensures .0 .u-kept .long) ∙ write-u-column .ensures .kept .long
+    rw length-set at (forward .ensures .0 .frame .u-kept .long) ∙ write-u-column .ensures .kept .long
 
 same-length-3 : tie.Need-same-length-3
 same-length-3 c = search needs

@@ -1,10 +1,12 @@
 -- `remove`: the column, and then the row by Backward.
 use borrow.Author.Needs.{needs}
+use mathlib.Core.Path.{_∙_}
 use Prim.Native.Nat.{_-_}
 use native.Mathlib.Omega.{arith}
 use lib.Ieee.{binary64}
 use denote.Ref.{now}
 use Rattle.numbers.specs.NumberForm.{ieee}
+use Rattle.buffers.proofs.Buffers.{room-kept}
 use Rattle.stages.proofs.StageLaws.{backward-counted-le, column-dropped-counted-le}
 use Rattle.update_remove.proofs.Removed.{remove-outcome}
 use Rattle.update_remove.proofs.remove.Statement.{statement}
@@ -40,9 +42,8 @@ backward-requires c κs =
     let r : tie.After-read-l-column = search in
     let a = way r .start .args in
     let p = way r .start .pre in
-    let d = way r .dropped .drop-column .ensures .0 in (
-      record
-          { stride = p .0 .stride; dimension = p .0 .dimension; l-long = rw (copy-l-column .ensures .kept .long, d .l-kept .long) (p .0 .l-long); u-long = rw (d .u-kept .long) (p .0 .u-long) },
+    let d = way r .dropped .drop-column .ensures .0 .frame in (
+      room-kept (ieee binary64) (p .0) (copy-l-column .ensures .kept .long ∙ d .l-kept .long) (d .u-kept .long),
       (omega arith, (rw (r .read-l-column .ensures .kept .long, d .w-kept .long) (omega arith), (omega arith, (omega arith, (omega arith, omega arith))))),
     )
 

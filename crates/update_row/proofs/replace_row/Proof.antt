@@ -1,11 +1,12 @@
 -- `replace_row`: Backward clears the row's place in L, and Forward puts the new row in.
 use borrow.Author.Needs.{needs}
-use mathlib.Core.Path.{_∙_}
+use mathlib.Core.Path.{refl, _∙_}
 use Prim.Native.Nat.{_-_}
 use native.Mathlib.Omega.{arith}
 use lib.Ieee.{binary64}
 use denote.Ref.{now}
 use Rattle.numbers.specs.NumberForm.{ieee}
+use Rattle.buffers.proofs.Buffers.{room-kept}
 use Rattle.stages.proofs.StageLaws.{forward-counted-le, backward-counted-le}
 use Rattle.update_row.proofs.RowReplaced.{replace-row-outcome}
 use Rattle.update_row.proofs.replace_row.Statement.{statement}
@@ -41,8 +42,7 @@ backward-requires c κs =
     let t : tie.After-trim = search in
     let p = way t .start .pre in
     let e = t .trim .ensures in (
-      record
-          { stride = p .0 .stride; dimension = p .0 .dimension; l-long = rw (way t .cleared .clear-l-column .ensures .kept .long) (p .0 .l-long); u-long = p .0 .u-long },
+      room-kept (ieee binary64) (p .0) (way t .cleared .clear-l-column .ensures .kept .long) refl,
       (omega arith, (rw (way t .read .read-l-column .ensures .kept .long) (omega arith), (omega arith, (omega arith, (omega arith, omega arith))))),
     )
 
@@ -53,7 +53,7 @@ set-unit-row-requires c κs =
     let t = trimmed b in
     let p = way t .start .pre in
     let e = t .trim .ensures in
-    let k = b .backward .ensures .0 .l-kept .long in
+    let k = b .backward .ensures .0 .frame .l-kept .long in
     let g = way t .cleared .clear-l-column .ensures .kept .long in
     (omega arith, (omega arith, (omega arith, (omega arith, omega arith))))
 
@@ -65,17 +65,16 @@ forward-requires c κs =
     let t = trimmed b in
     let p = way t .start .pre in
     let e = t .trim .ensures in
-    let k = b .backward .ensures .0 in (
-      record
-          { stride = p .0 .stride; dimension = p .0 .dimension; l-long = rw (u .set-unit-row .ensures .kept .long, k .l-kept .long, way t .cleared .clear-l-column .ensures .kept .long) (p .0 .l-long); u-long = rw (k .u-kept .long) (p .0 .u-long) },
+    let k = b .backward .ensures .0 .frame in (
+      room-kept (ieee binary64) (p .0) (u .set-unit-row .ensures .kept .long ∙ k .l-kept .long ∙ way t .cleared .clear-l-column .ensures .kept .long) (k .u-kept .long),
       (omega arith, (omega arith, (omega arith, (omega arith, omega arith)))),
     )
 
 add-result : tie.Need-add-result
 unfolding way trimmed
 add-result c =
-    let n : tie.After-forward = search in
     let b : tie.After-backward = search in
+    let n : tie.After-forward = search in
     let t = trimmed b in
     let a = way t .start .args in
     let p = way t .start .pre in
@@ -90,7 +89,7 @@ same-length c =
     let f : tie.After-forward = search in
     let u : tie.After-set-unit-row = search in
     let b : tie.After-backward = search in
-    f .forward .ensures .0 .l-kept .long ∙ u .set-unit-row .ensures .kept .long ∙ b .backward .ensures .0 .l-kept .long ∙ way (trimmed b) .cleared .clear-l-column .ensures .kept .long
+    f .forward .ensures .0 .frame .l-kept .long ∙ u .set-unit-row .ensures .kept .long ∙ b .backward .ensures .0 .frame .l-kept .long ∙ way (trimmed b) .cleared .clear-l-column .ensures .kept .long
 
 same-length-2 : tie.Need-same-length-2
 same-length-2 c = search needs
@@ -105,7 +104,7 @@ same-length-5 : tie.Need-same-length-5
 unfolding way trimmed
 same-length-5 c =
     let b : tie.After-backward = search in
-    b .backward .ensures .0 .v-kept .long ∙ way (trimmed b) .read .read-l-column .ensures .kept .long
+    b .backward .ensures .0 .frame .w-kept .long ∙ way (trimmed b) .read .read-l-column .ensures .kept .long
 
 returns : tie.Need-returns
 unfolding way trimmed
