@@ -15,7 +15,8 @@ use Rattle.machine.specs.Counts.{backwardRowCount, backwardRowsCount}
 use Rattle.machine.proofs.Choice.{pick, out-of-range}
 use Rattle.machine.proofs.Counts.{backward-row-count-same}
 use Rattle.storage.specs.Places.{uIndex}
-use Rattle.storage.proofs.Kept.{kept-all, kept-more}
+use Rattle.storage.proofs.Kept.{kept-more}
+use Rattle.storage.proofs.Frames.{frame-y}
 use Rattle.ranges.specs.Written.{from, Written}
 use Rattle.ranges.proofs.RowParts.{part-place}
 use Rattle.buffers.specs.Performed.{Performed}
@@ -91,8 +92,5 @@ module _ (N : NumberForm) where
           (λ s. absurd (omega (arith, out-of-range selected columns j s a)));
       v = λ j a. refl;
     };
-    l-kept = kept-all N;
-    u-kept = kept-all N;
-    y-kept = kept-more N (λ q w. omega arith) (ys .kept);
-    v-kept = kept-all N;
+    frame = frame-y N (kept-more N (λ q w. omega arith) (ys .kept));
   }

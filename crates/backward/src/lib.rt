@@ -4,7 +4,6 @@ ghost use Prim.Native.Nat.{_-_, _≤_, _<_};
 ghost use lib.ListN.{length};
 ghost use lib.Ieee.{binary64};
 ghost use Rattle.numbers.specs.NumberForm.{ieee};
-ghost use Rattle.numbers.specs.Tolerances.{tinyOf};
 ghost use Rattle.machine.specs.Products.{entry};
 ghost use Rattle.machine.specs.Backward.{backwardRows};
 ghost use Rattle.machine.specs.Backward;
@@ -42,9 +41,9 @@ pub fn backward_rows(
     numerics: Numerics,
 ) -> usize
     requires { ⌜ Room (ieee binary64) stride n (now l) (now u) × ((columns ≤ length (now y)) × ((n ≤ length (now v)) × ((first ≤ selected) × ((selected < n) × ((selected ≤ columns) × (columns ≤ n)))))) ⌝ }
-    ensures { λ r. ⌜ Performed (ieee binary64) stride n first columns n (backwardRows (ieee binary64) (numerics .epsilon) (tinyOf binary64 (numerics .epsilon) (numerics .«update_tiny»)) selected columns (selected - first))
+    ensures { λ r. ⌜ Performed (ieee binary64) stride n first columns n (backwardRows (ieee binary64) (numerics .epsilon) (numerics .tiny) selected columns (selected - first))
         (now (l .entry)) (now (u .entry)) (now (y .entry)) (now (v .entry)) (now (l .exit)) (now (u .exit)) (now (y .exit)) (now (v .exit))
-        × (r ≡ backwardRowsCount (ieee binary64) (numerics .epsilon) (tinyOf binary64 (numerics .epsilon) (numerics .«update_tiny»)) selected columns (selected - first)
+        × (r ≡ backwardRowsCount (ieee binary64) (numerics .epsilon) (numerics .tiny) selected columns (selected - first)
         (workOf (ieee binary64) stride (now (l .entry)) (now (u .entry)) (now (y .entry)) (now (v .entry)))) ⌝ }
 {
     let mut steps = 0;
@@ -71,9 +70,9 @@ pub fn backward(
     numerics: Numerics,
 ) -> usize
     requires { ⌜ Room (ieee binary64) stride n (now l) (now u) × ((columns ≤ length (now y)) × ((n ≤ length (now v)) × ((first ≤ selected) × ((selected < n) × ((selected ≤ columns) × (columns ≤ n)))))) ⌝ }
-    ensures { λ r. ⌜ Performed (ieee binary64) stride n first columns n (Backward.backward (ieee binary64) (numerics .epsilon) (tinyOf binary64 (numerics .epsilon) (numerics .«update_tiny»)) first selected columns)
+    ensures { λ r. ⌜ Performed (ieee binary64) stride n first columns n (Backward.backward (ieee binary64) (numerics .epsilon) (numerics .tiny) first selected columns)
         (now (l .entry)) (now (u .entry)) (now (y .entry)) (now (v .entry)) (now (l .exit)) (now (u .exit)) (now (y .exit)) (now (v .exit))
-        × (r ≡ backwardCount (ieee binary64) (numerics .epsilon) (tinyOf binary64 (numerics .epsilon) (numerics .«update_tiny»)) first selected columns
+        × (r ≡ backwardCount (ieee binary64) (numerics .epsilon) (numerics .tiny) first selected columns
         (workOf (ieee binary64) stride (now (l .entry)) (now (u .entry)) (now (y .entry)) (now (v .entry)))) ⌝ }
 {
     let diagonal = u_index(selected, selected, stride);

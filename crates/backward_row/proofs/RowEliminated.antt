@@ -17,6 +17,7 @@ use Rattle.machine.proofs.Choice.{neqb→ne, pick, in-range, out-of-range}
 use Rattle.storage.specs.Places.{uIndex}
 use Rattle.storage.specs.Views.{viewU}
 use Rattle.storage.proofs.Kept.{kept-all, kept-set, kept-then, kept-more}
+use Rattle.storage.proofs.Frames.{frame-y}
 use Rattle.ranges.specs.Written.{from, Written}
 use Rattle.transforms.specs.RowsTransformed.{RowsTransformed}
 use Rattle.ranges.proofs.RowParts.{part-place, outside-part, part-free, left-out}
@@ -40,10 +41,7 @@ module _ (N : NumberForm) where
           (λ s. getD-set-other y row j 𝟎 absent (neqb→ne j row s));
       v = λ j a. refl;
     };
-    l-kept = kept-all N;
-    u-kept = kept-all N;
-    y-kept = kept-set N y row 𝟎 (omega arith);
-    v-kept = kept-all N;
+    frame = frame-y N (kept-set N y row 𝟎 (omega arith));
   }
 
   -- ---- the pair step made and applied
@@ -101,10 +99,13 @@ module _ (N : NumberForm) where
     unfolding backwardTransform v′
     backward-transformed = record {
       agree = record { L = l-transformed N c n selected row hc hs (omega arith) ls; U = transformed-u; y = transformed-y; v = transformed-v };
-      l-kept = l-transformed-kept N c n selected row hc hs (omega arith) ls;
-      u-kept = kept-more N (part-free c row row (columns - row) d (omega arith) (omega arith) is-d n (omega arith)) (us .kept);
-      y-kept = kept-more N (λ q w. omega arith) (ys .kept);
-      v-kept = kept-then N (kept-set N v selected x hs) (kept-set N (set v selected x) row z (omega arith));
+      frame = record {
+        l-kept = l-transformed-kept N c n selected row hc hs (omega arith) ls;
+        u-kept = kept-more N (part-free c row row (columns - row) d (omega arith) (omega arith) is-d n (omega arith)) (us .kept);
+        y-kept = kept-more N (λ q w. omega arith) (ys .kept);
+        z-kept = kept-all N;
+        w-kept = kept-then N (kept-set N v selected x hs) (kept-set N (set v selected x) row z (omega arith));
+      };
     }
 
   -- ---- the guard, on absolute values that were computed

@@ -4,7 +4,6 @@ ghost use Prim.Native.Nat.{_≤_, _<_};
 ghost use lib.ListN.{length};
 ghost use lib.Ieee.{binary64};
 ghost use Rattle.numbers.specs.NumberForm.{ieee};
-ghost use Rattle.numbers.specs.Tolerances.{tinyOf};
 ghost use Rattle.machine.specs.Backward.{backwardRow};
 ghost use Rattle.machine.specs.Counts.{backwardRowCount};
 ghost use Rattle.buffers.specs.Performed.{workOf, Room, Performed};
@@ -30,7 +29,7 @@ pub fn backward_row(
     numerics: Numerics,
 ) -> usize
     requires { ⌜ Room (ieee binary64) stride n (now l) (now u) × ((columns ≤ length (now y)) × ((n ≤ length (now v)) × ((row < selected) × ((selected < n) × ((selected ≤ columns) × (columns ≤ n)))))) ⌝ }
-    ensures { λ r. ⌜ Performed (ieee binary64) stride n row columns n (backwardRow (ieee binary64) (numerics .epsilon) (tinyOf binary64 (numerics .epsilon) (numerics .«update_tiny»)) selected columns row)
+    ensures { λ r. ⌜ Performed (ieee binary64) stride n row columns n (backwardRow (ieee binary64) (numerics .epsilon) (numerics .tiny) selected columns row)
         (now (l .entry)) (now (u .entry)) (now (y .entry)) (now (v .entry)) (now (l .exit)) (now (u .exit)) (now (y .exit)) (now (v .exit))
         × (r ≡ backwardRowCount (ieee binary64) (numerics .epsilon) selected row (workOf (ieee binary64) stride (now (l .entry)) (now (u .entry)) (now (y .entry)) (now (v .entry)))) ⌝ }
 {
@@ -40,7 +39,7 @@ pub fn backward_row(
     if abs(value) <= numerics.epsilon * abs(pivot) {
         return 0;
     }
-    let transform = elementary(&mut pivot, &mut value, numerics);
+    let transform = elementary(&mut pivot, &mut value, numerics.tiny);
     v[selected] = pivot;
     v[row] = value;
     let diagonal = u_index(row, row, stride);

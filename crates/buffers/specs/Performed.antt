@@ -1,13 +1,14 @@
 -- How buffers stand for the machine's tables, and what it is for a function on buffers to perform a step of the machine.
-use mathlib.Core.List.{List}
+use mathlib.Core.List.{List, []}
 use Prim.Native.Nat.{ℕ, _*_, _^_, _≤_, _<_}
 use lib.ListN.{length}
 use Rattle.numbers.specs.NumberForm.{NumberForm}
 use Rattle.machine.specs.Tables.{Work}
 use Rattle.machine.specs.Products.{entry}
 use Rattle.machine.specs.Agreement.{AgreeWithin}
-use Rattle.storage.specs.Places.{uLength, LPlace, UPlace}
-use Rattle.storage.specs.Views.{viewL, viewU, Kept}
+use Rattle.storage.specs.Places.{uLength}
+use Rattle.storage.specs.Views.{viewL, viewU}
+use Rattle.storage.specs.Updated.{UpdateFrame}
 
 module _ (N : NumberForm) where
   open NumberForm N using (Value)
@@ -24,10 +25,7 @@ module _ (N : NumberForm) where
     pub u-long : uLength c ≤ length u
 
   -- The buffers l, u, y, v are left as l′, u′, y′, v′: the factors at dimension n, y from lo below hi and v below k are what f makes of what the buffers
-  -- held. Outside the active entries, and from n on in y and v, all is as it was.
+  -- held. All else is in the frame of an update, in which y and v are the first workspace and the last; the middle one is not lent.
   pub record Performed (c n lo hi k : ℕ) (f : Work Value → Work Value) (l u y v l′ u′ y′ v′ : List Value) : Type 0 where
     pub agree : AgreeWithin n lo hi k (workOf c l′ u′ y′ v′) (f (workOf c l u y v))
-    pub l-kept : Kept N (LPlace c n) l l′
-    pub u-kept : Kept N (UPlace c n) u u′
-    pub y-kept : Kept N (λ q. q < n) y y′
-    pub v-kept : Kept N (λ q. q < n) v v′
+    pub frame : UpdateFrame N c n l u y [] v l′ u′ y′ [] v′

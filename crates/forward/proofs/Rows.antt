@@ -16,7 +16,8 @@ use Rattle.machine.proofs.Choice.{pick, in-range}
 use Rattle.machine.proofs.Counts.{forward-row-count-same}
 use Rattle.storage.specs.Places.{uIndex}
 use Rattle.storage.specs.Views.{viewU}
-use Rattle.storage.proofs.Kept.{kept-all, kept-more}
+use Rattle.storage.proofs.Kept.{kept-more}
+use Rattle.storage.proofs.Frames.{frame-u}
 use Rattle.ranges.specs.Written.{from, Written}
 use Rattle.ranges.proofs.RowParts.{part-place, outside-part, part-free, left-out}
 use Rattle.buffers.specs.Performed.{workOf, Performed}
@@ -75,8 +76,5 @@ module _ (N : NumberForm) where
     unfolding copyDenseToRow
     dense-copied = record {
       agree = record { L = λ i j a b. refl; U = copied-u; y = λ j a b. refl; v = λ j a. refl };
-      l-kept = kept-all N;
-      u-kept = kept-more N (part-free c last last (columns - last) d (omega arith) (omega arith) is-d n (omega arith)) (us .kept);
-      y-kept = kept-all N;
-      v-kept = kept-all N;
+      frame = frame-u N (kept-more N (part-free c last last (columns - last) d (omega arith) (omega arith) is-d n (omega arith)) (us .kept));
     }

@@ -5,7 +5,6 @@ ghost use Prim.Native.Nat.{_≤_, _<_};
 ghost use lib.ListN.{length};
 ghost use lib.Ieee.{binary64};
 ghost use Rattle.numbers.specs.NumberForm.{ieee};
-ghost use Rattle.numbers.specs.Tolerances.{tinyOf};
 ghost use Rattle.machine.specs.Forward;
 ghost use Rattle.machine.specs.Counts.{forwardCount};
 ghost use Rattle.buffers.specs.Performed.{workOf, Room, Performed};
@@ -28,9 +27,9 @@ pub fn forward(
     numerics: Numerics,
 ) -> usize
     requires { ⌜ Room (ieee binary64) stride n (now l) (now u) × ((columns ≤ length (now y)) × ((first ≤ last) × ((last < n) × ((last ≤ columns) × (columns ≤ n))))) ⌝ }
-    ensures { λ r. ⌜ Performed (ieee binary64) stride n 0 columns 0 (Forward.forward (ieee binary64) (numerics .epsilon) (tinyOf binary64 (numerics .epsilon) (numerics .«update_tiny»)) first last columns)
+    ensures { λ r. ⌜ Performed (ieee binary64) stride n 0 columns 0 (Forward.forward (ieee binary64) (numerics .epsilon) (numerics .tiny) first last columns)
         (now (l .entry)) (now (u .entry)) (now (y .entry)) [] (now (l .exit)) (now (u .exit)) (now (y .exit)) []
-        × (r ≡ forwardCount (ieee binary64) (numerics .epsilon) (tinyOf binary64 (numerics .epsilon) (numerics .«update_tiny»)) first last columns
+        × (r ≡ forwardCount (ieee binary64) (numerics .epsilon) (numerics .tiny) first last columns
         (workOf (ieee binary64) stride (now (l .entry)) (now (u .entry)) (now (y .entry)) [])) ⌝ }
 {
     let mut steps = 0;

@@ -109,11 +109,14 @@ module _ (N : NumberForm) where
     unfolding forwardTransform
     forward-transformed = record {
       agree = record { L = l-transformed N c n row last hc (omega arith) hl ls; U = transformed-u; y = transformed-y; v = λ j h. refl };
-      l-kept = l-transformed-kept N c n row last hc (omega arith) hl ls;
-      u-kept = kept-then N (kept-set N u d x (row, row, omega arith, omega arith, is-d))
-          (kept-more N (part-free c row (row + 1) (columns - (row + 1)) (d + 1) (omega arith) (omega arith) next n (omega arith)) (us .kept));
-      y-kept = kept-then N (kept-set N y row z (omega arith)) (kept-more N (λ q w. omega arith) (ys .kept));
-      v-kept = kept-all N;
+      frame = record {
+        l-kept = l-transformed-kept N c n row last hc (omega arith) hl ls;
+        u-kept = kept-then N (kept-set N u d x (row, row, omega arith, omega arith, is-d))
+            (kept-more N (part-free c row (row + 1) (columns - (row + 1)) (d + 1) (omega arith) (omega arith) next n (omega arith)) (us .kept));
+        y-kept = kept-then N (kept-set N y row z (omega arith)) (kept-more N (λ q w. omega arith) (ys .kept));
+        z-kept = kept-all N;
+        w-kept = kept-all N;
+      };
     }
 
   -- ---- the guard, on absolute values that were computed

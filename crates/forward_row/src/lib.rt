@@ -5,7 +5,6 @@ ghost use Prim.Native.Nat.{_≤_, _<_};
 ghost use lib.ListN.{length};
 ghost use lib.Ieee.{binary64};
 ghost use Rattle.numbers.specs.NumberForm.{ieee};
-ghost use Rattle.numbers.specs.Tolerances.{tinyOf};
 ghost use Rattle.machine.specs.Forward.{forwardRow};
 ghost use Rattle.machine.specs.Counts.{forwardRowCount};
 ghost use Rattle.buffers.specs.Performed.{workOf, Room, Performed};
@@ -30,7 +29,7 @@ pub fn forward_row(
     numerics: Numerics,
 ) -> usize
     requires { ⌜ Room (ieee binary64) stride n (now l) (now u) × ((columns ≤ length (now y)) × ((row < last) × ((last < n) × ((last ≤ columns) × (columns ≤ n))))) ⌝ }
-    ensures { λ r. ⌜ Performed (ieee binary64) stride n 0 columns 0 (forwardRow (ieee binary64) (numerics .epsilon) (tinyOf binary64 (numerics .epsilon) (numerics .«update_tiny»)) last columns row)
+    ensures { λ r. ⌜ Performed (ieee binary64) stride n 0 columns 0 (forwardRow (ieee binary64) (numerics .epsilon) (numerics .tiny) last columns row)
         (now (l .entry)) (now (u .entry)) (now (y .entry)) [] (now (l .exit)) (now (u .exit)) (now (y .exit)) []
         × (r ≡ forwardRowCount (ieee binary64) (numerics .epsilon) row (workOf (ieee binary64) stride (now (l .entry)) (now (u .entry)) (now (y .entry)) [])) ⌝ }
 {
@@ -38,7 +37,7 @@ pub fn forward_row(
     let mut pivot = u[diagonal];
     let mut value = y[row];
     if abs(value) > numerics.epsilon * abs(pivot) {
-        let transform = elementary(&mut pivot, &mut value, numerics);
+        let transform = elementary(&mut pivot, &mut value, numerics.tiny);
         u[diagonal] = pivot;
         y[row] = value;
         transform_slices(u, diagonal + 1, y, row + 1, columns - (row + 1), transform);

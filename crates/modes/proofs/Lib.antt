@@ -1,2 +1,2 @@
--- Calls is about the machine's step for each mode.
+-- Calls is about the machine's call for each mode.
 pub mod Calls

@@ -3,9 +3,7 @@ ghost use mathlib.Core.Path.{_≡_};
 ghost use lib.Ieee.{binary64};
 ghost use Rattle.numbers.specs.NumberForm.{ieee};
 ghost use Rattle.numbers.specs.PairStep.{Stepped, first, second};
-ghost use Rattle.numbers.specs.Tolerances.{tinyOf};
 use crate::real::abs;
-use crate::tolerance::Numerics;
 
 // What a pair step found: whether the two are exchanged, and what multiple of the first is added to the second.
 pub struct Transform {
@@ -13,11 +11,10 @@ pub struct Transform {
     pub multiplier: f64,
 }
 
-// The pair step on x and y.
-pub fn elementary(x: &mut f64, y: &mut f64, numerics: Numerics) -> Transform
-    ensures { λ r. ⌜ Stepped binary64 (tinyOf binary64 (numerics .epsilon) (numerics .«update_tiny»)) (now (x .entry)) (now (y .entry)) (now (x .exit)) (now (y .exit)) (r .swap) (r .multiplier) ⌝ }
+// The pair step on x and y, with T.
+pub fn elementary(x: &mut f64, y: &mut f64, tiny: f64) -> Transform
+    ensures { λ r. ⌜ Stepped binary64 tiny (now (x .entry)) (now (y .entry)) (now (x .exit)) (now (y .exit)) (r .swap) (r .multiplier) ⌝ }
 {
-    let tiny = numerics.epsilon * numerics.update_tiny;
     let size_x = abs(*x);
     let size_y = abs(*y);
     let transform = if size_x >= size_y {

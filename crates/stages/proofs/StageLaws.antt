@@ -17,19 +17,21 @@ use Rattle.machine.specs.Backward.{trim, backward}
 use Rattle.machine.specs.Updates.{putColumn, putSelected, lastColumnRead, restoredFrom, restored, columnDropped}
 use Rattle.machine.specs.Agreement.{Agree, AgreeWithin}
 use Rattle.machine.specs.Counts.{forwardCount, backwardCount, restoredFromCount, restoredCount, columnDroppedCount}
-use Rattle.machine.proofs.Choice.{neqb→ne, pick, within-from, within-less, within-trans}
+use Rattle.machine.proofs.Choice.{neqb→ne, pick, within-from, within-less, within-trans, within-state}
 use Rattle.machine.proofs.Forward.{forward-same}
 use Rattle.machine.proofs.Backward.{trim-le, trim-ge, backward-same}
 use Rattle.machine.proofs.Updates.{restored-same}
 use Rattle.machine.proofs.CountLimits.{forward-count-le, backward-count-le, column-dropped-count-le}
 use Rattle.machine.proofs.Counts.{forward-count-same, backward-count-same, restored-count-same}
 use Rattle.storage.specs.Places.{lIndex, uIndex, LPlace, UPlace}
-use Rattle.storage.specs.Views.{viewL, viewU, Kept}
-use Rattle.storage.proofs.Kept.{kept-all, kept-set, kept-then, kept-more}
+use Rattle.storage.specs.Views.{viewL, viewU, stateAt, Kept}
+use Rattle.storage.specs.Updated.{Updated}
+use Rattle.storage.proofs.Kept.{kept-set, kept-then, kept-more}
+use Rattle.storage.proofs.Frames.{frame-all, frame-then, frame-last, frame-u, frame-y, frame-w}
 use Rattle.storage.proofs.Places.{lIndex-injective, uIndex-injective}
 use Rattle.ranges.specs.Written.{from, Written}
 use Rattle.buffers.specs.Performed.{workOf, Performed}
-use Rattle.stages.specs.Stages.{withUnitRow, LUpdated, Updated}
+use Rattle.stages.specs.Stages.{withUnitRow, LUpdated}
 
 module _ (N : NumberForm) where
   open NumberForm N using (Value, zero as 𝟎, one as 𝟏, absent)
@@ -89,11 +91,6 @@ module _ (N : NumberForm) where
         ∙ h .kept .same _ (λ w. neqb→ne i row s (lIndex-injective c i j row (w .0) (omega arith) (omega arith) (w .2) .0)));
     kept = kept-then N (kept-more N (λ q w. (row, w .0, hr, w .1, w .2)) (h .kept)) (kept-set N l₁ p 𝟏 (row, column, hr, hk, is-p));
   }
-
-  -- ---- what is left of an agreement for the factors
-
-  pub factors-agree : (m c : ℕ) {n lo hi k : ℕ} (l u y v : List Value) {R : Work Value} → m ≤ n → AgreeWithin n lo hi k (workOf N c l u y v) R → Agree (stateOf m (workOf N c l u [] [])) (stateOf m R)
-  factors-agree m c l u y v hm a = record { n = refl; L = λ i j hi hj. a .L i j (omega arith) (omega arith); U = λ i j hij hj. a .U i j hij (omega arith) }
 
   module _ (E T : Value) where
     -- Forward on buffers that agree with S leaves buffers that agree with Forward of S, whatever stands in v
@@ -163,10 +160,7 @@ module _ (N : NumberForm) where
           let b = trim-ge N E (suc k) last (entry N w) hk in
           record {
             agree = rw (← is-s) (forward-agrees c n k s columns l₁ u₁ (set y₁ k (entry N w₁ s)) w₁ hc (omega arith) (omega arith) (omega arith) q row-put);
-            l-kept = kept-then N (p .l-kept) (q .l-kept);
-            u-kept = kept-then N (p .u-kept) (q .u-kept);
-            y-kept = kept-then N (p .y-kept) (kept-then N (kept-set N y₁ k (entry N w₁ s) (omega arith)) (q .y-kept));
-            v-kept = p .v-kept;
+            frame = frame-then N (p .frame) (frame-then N (frame-y N (kept-set N y₁ k (entry N w₁ s) (omega arith))) (frame-last N (q .frame)));
           }
 
       restored-counted : {a b : ℕ} → a ≡ backwardCount N E T (suc k) s columns (workOf N c l u y w) → b ≡ forwardCount N E T k s columns (workOf N c l₁ u₁ (set y₁ k (entry N w₁ s)) [])
@@ -195,16 +189,13 @@ module _ (N : NumberForm) where
             (record { L = λ i j a b. refl; U = λ i j a b. refl; y = λ j a b. absurd (omega arith); v = λ j h. ws .value j (omega arith) })
 
         column-dropped : {l′ u′ y′ w′ : List Value} → Performed N c n k (n - 1) 0 (restored N E T k (n - 1) (n - 1)) l u₁ y w₁ l′ u′ y′ w′
-            → Updated N c n n (columnDropped N E T (n - 1) (viewL N c l) (viewU N c u) k) l u y [] w l′ u′ y′ [] w′
+            → Updated N c n (stateOf n (columnDropped N E T (n - 1) (viewL N c l) (viewU N c u) k)) l u y [] w l′ u′ y′ [] w′
         unfolding columnDropped
-        column-dropped {l′} {u′} {y′} {w′} r = record {
-          agree = rw (lt-ltb k (n - 1) hk) (factors-agree n c l′ u′ y′ w′ (omega arith) (within-trans (r .agree)
+        column-dropped r = record {
+          agree = rw (lt-ltb k (n - 1) hk) (within-state n (omega arith) (within-trans (r .agree)
               (within-less (n - 1) 0 (omega arith) (omega arith) (restored-same N E T n (n - 1) k (omega arith) hk (n - 1) (n - 1) hk (omega arith) (omega arith) last-column-moved))));
-          l-kept = r .l-kept;
-          u-kept = kept-then N (u-column-kept c k (k + 1) (omega arith) (omega arith) us n (omega arith)) (r .u-kept);
-          y-kept = r .y-kept;
-          z-kept = kept-all N;
-          w-kept = kept-then N (kept-more N (λ q a. omega arith) (ws .kept)) (r .v-kept);
+          frame = frame-then N (frame-w N (kept-more N (λ q a. omega arith) (ws .kept)))
+              (frame-then N (frame-u N (u-column-kept c k (k + 1) (omega arith) (omega arith) us n (omega arith))) (r .frame));
         }
 
         column-dropped-counted : {a : ℕ} → a ≡ restoredCount N E T k (n - 1) (n - 1) (workOf N c l u₁ y w₁) → a ≡ columnDroppedCount N E T (n - 1) (viewL N c l) (viewU N c u) k
@@ -216,21 +207,14 @@ module _ (N : NumberForm) where
         -- the factors, and how many pair steps they took
         pub column-dropped-outcome : {l′ u′ y′ w′ : List Value} {a : ℕ}
             → Performed N c n k (n - 1) 0 (restored N E T k (n - 1) (n - 1)) l u₁ y w₁ l′ u′ y′ w′ × (a ≡ restoredCount N E T k (n - 1) (n - 1) (workOf N c l u₁ y w₁))
-            → Updated N c n n (columnDropped N E T (n - 1) (viewL N c l) (viewU N c u) k) l u y [] w l′ u′ y′ [] w′ × (a ≡ columnDroppedCount N E T (n - 1) (viewL N c l) (viewU N c u) k)
+            → Updated N c n (stateOf n (columnDropped N E T (n - 1) (viewL N c l) (viewU N c u) k)) l u y [] w l′ u′ y′ [] w′ × (a ≡ columnDroppedCount N E T (n - 1) (viewL N c l) (viewU N c u) k)
         column-dropped-outcome r = (column-dropped (r .0), column-dropped-counted (r .1))
 
       -- the last column: nothing is done, and no pair step is made
       pub last-column-dropped : n - 1 ≤ k
-          → Updated N c n n (columnDropped N E T (n - 1) (viewL N c l) (viewU N c u) k) l u y [] w l u y [] w × (0 ≡ columnDroppedCount N E T (n - 1) (viewL N c l) (viewU N c u) k)
+          → Updated N c n (stateOf n (columnDropped N E T (n - 1) (viewL N c l) (viewU N c u) k)) l u y [] w l u y [] w × (0 ≡ columnDroppedCount N E T (n - 1) (viewL N c l) (viewU N c u) k)
       unfolding columnDropped columnDroppedCount
       last-column-dropped h = (
-        record {
-          agree = rw (le-ltb k (n - 1) h) (record { n = refl; L = λ i j a b. refl; U = λ i j a b. refl });
-          l-kept = kept-all N;
-          u-kept = kept-all N;
-          y-kept = kept-all N;
-          z-kept = kept-all N;
-          w-kept = kept-all N;
-        },
+        record { agree = rw (le-ltb k (n - 1) h) (record { n = refl; L = λ i j a b. refl; U = λ i j a b. refl }); frame = frame-all N },
         rw (le-ltb k (n - 1) h),
       )

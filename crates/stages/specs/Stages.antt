@@ -1,4 +1,4 @@
--- What the updates and their stages leave in their buffers.
+-- What the stages of the updates leave in the buffer of L.
 use mathlib.Core.Path.{_≡_}
 use mathlib.Core.Bool.{cond}
 use mathlib.Core.List.{List, []}
@@ -22,13 +22,3 @@ module _ (N : NumberForm) where
   pub record LUpdated (c n : ℕ) (f : Table Value → Table Value) (l l′ : List Value) : Type 0 where
     pub value : (i j : ℕ) → i < n → j < n → viewL N c l′ i j ≡ f (viewL N c l) i j
     pub kept : Kept N (LPlace c n) l l′
-
-  -- The factors of dimension m are those of R. Outside the entries that are active at the larger dimension n, and from n on in the workspaces, all is as
-  -- it was.
-  pub record Updated (c n m : ℕ) (R : Work Value) (l u y z w l′ u′ y′ z′ w′ : List Value) : Type 0 where
-    pub agree : Agree (stateOf m (workOf N c l′ u′ [] [])) (stateOf m R)
-    pub l-kept : Kept N (LPlace c n) l l′
-    pub u-kept : Kept N (UPlace c n) u u′
-    pub y-kept : Kept N (λ q. q < n) y y′
-    pub z-kept : Kept N (λ q. q < n) z z′
-    pub w-kept : Kept N (λ q. q < n) w w′

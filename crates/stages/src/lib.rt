@@ -5,12 +5,13 @@ ghost use Prim.Native.Nat.{_-_, _*_, _^_, _≤_, _<_};
 ghost use lib.ListN.{length};
 ghost use lib.Ieee.{binary64};
 ghost use Rattle.numbers.specs.NumberForm.{ieee};
-ghost use Rattle.numbers.specs.Tolerances.{tinyOf};
+ghost use Rattle.machine.specs.Tables.{stateOf};
 ghost use Rattle.machine.specs.Updates.{restored, columnDropped};
 ghost use Rattle.machine.specs.Counts.{restoredCount, columnDroppedCount};
 ghost use Rattle.storage.specs.Views.{viewL, viewU};
+ghost use Rattle.storage.specs.Updated.{Updated};
 ghost use Rattle.buffers.specs.Performed.{workOf, Room, Performed};
-ghost use Rattle.stages.specs.Stages.{withUnitRow, LUpdated, Updated};
+ghost use Rattle.stages.specs.Stages.{withUnitRow, LUpdated};
 use backward::backward;
 use backward::trim;
 use forward::forward;
@@ -45,9 +46,9 @@ pub fn restore(
     numerics: Numerics,
 ) -> usize
     requires { ⌜ Room (ieee binary64) stride n (now l) (now u) × ((n ≤ length (now y)) × ((n ≤ length (now w)) × ((column < last) × ((last < n) × ((last ≤ columns) × (columns ≤ n)))))) ⌝ }
-    ensures { λ r. ⌜ Performed (ieee binary64) stride n column columns 0 (restored (ieee binary64) (numerics .epsilon) (tinyOf binary64 (numerics .epsilon) (numerics .«update_tiny»)) column last columns)
+    ensures { λ r. ⌜ Performed (ieee binary64) stride n column columns 0 (restored (ieee binary64) (numerics .epsilon) (numerics .tiny) column last columns)
         (now (l .entry)) (now (u .entry)) (now (y .entry)) (now (w .entry)) (now (l .exit)) (now (u .exit)) (now (y .exit)) (now (w .exit))
-        × (r ≡ restoredCount (ieee binary64) (numerics .epsilon) (tinyOf binary64 (numerics .epsilon) (numerics .«update_tiny»)) column last columns
+        × (r ≡ restoredCount (ieee binary64) (numerics .epsilon) (numerics .tiny) column last columns
         (workOf (ieee binary64) stride (now (l .entry)) (now (u .entry)) (now (y .entry)) (now (w .entry)))) ⌝ }
 {
     let selected = trim(column + 1, last, w, numerics.epsilon);
@@ -81,10 +82,10 @@ pub fn drop_column(
     numerics: Numerics,
 ) -> usize
     requires { ⌜ Room (ieee binary64) stride n (now l) (now u) × ((n ≤ length (now y)) × ((n ≤ length (now w)) × (column < n))) ⌝ }
-    ensures { λ r. ⌜ Updated (ieee binary64) stride n n (columnDropped (ieee binary64) (numerics .epsilon) (tinyOf binary64 (numerics .epsilon) (numerics .«update_tiny»)) (n - 1)
-        (viewL (ieee binary64) stride (now (l .entry))) (viewU (ieee binary64) stride (now (u .entry))) column)
+    ensures { λ r. ⌜ Updated (ieee binary64) stride n (stateOf n (columnDropped (ieee binary64) (numerics .epsilon) (numerics .tiny) (n - 1)
+        (viewL (ieee binary64) stride (now (l .entry))) (viewU (ieee binary64) stride (now (u .entry))) column))
         (now (l .entry)) (now (u .entry)) (now (y .entry)) [] (now (w .entry)) (now (l .exit)) (now (u .exit)) (now (y .exit)) [] (now (w .exit))
-        × (r ≡ columnDroppedCount (ieee binary64) (numerics .epsilon) (tinyOf binary64 (numerics .epsilon) (numerics .«update_tiny»)) (n - 1)
+        × (r ≡ columnDroppedCount (ieee binary64) (numerics .epsilon) (numerics .tiny) (n - 1)
         (viewL (ieee binary64) stride (now (l .entry))) (viewU (ieee binary64) stride (now (u .entry))) column) ⌝ }
 {
     let last = n - 1;

@@ -1,8 +1,14 @@
--- Laws of `UpdateFrame`.
-use mathlib.Core.List.{List}
-use Prim.Native.Nat.{ℕ}
+-- Laws of `UpdateFrame` and of `Updated`.
+use mathlib.Core.Path.{subst}
+use mathlib.Core.List.{List, []}
+use Prim.Native.Nat.{ℕ, _<_}
 use Rattle.numbers.specs.NumberForm.{NumberForm}
-use Rattle.storage.specs.Updated.{UpdateFrame}
+use Rattle.machine.specs.Tables.{State}
+use Rattle.machine.specs.Agreement.{Agree}
+use Rattle.machine.proofs.Choice.{agree-trans}
+use Rattle.storage.specs.Places.{LPlace, UPlace}
+use Rattle.storage.specs.Views.{stateAt, Kept}
+use Rattle.storage.specs.Updated.{UpdateFrame, Updated}
 use Rattle.storage.proofs.Kept.{kept-all, kept-then}
 
 module _ (N : NumberForm) {c m : ℕ} where
@@ -20,3 +26,32 @@ module _ (N : NumberForm) {c m : ℕ} where
     z-kept = kept-then N (h .z-kept) (g .z-kept);
     w-kept = kept-then N (h .w-kept) (g .w-kept);
   }
+
+  -- A step that was lent no middle workspace leaves what stands there, and a step that was lent no last one likewise.
+  pub frame-middle : {l u y z w l′ u′ y′ w′ : List Value} → UpdateFrame N c m l u y [] w l′ u′ y′ [] w′ → UpdateFrame N c m l u y z w l′ u′ y′ z w′
+  frame-middle h = record { l-kept = h .l-kept; u-kept = h .u-kept; y-kept = h .y-kept; z-kept = kept-all N; w-kept = h .w-kept }
+
+  pub frame-last : {l u y z w l′ u′ y′ z′ : List Value} → UpdateFrame N c m l u y z [] l′ u′ y′ z′ [] → UpdateFrame N c m l u y z w l′ u′ y′ z′ w
+  frame-last h = record { l-kept = h .l-kept; u-kept = h .u-kept; y-kept = h .y-kept; z-kept = h .z-kept; w-kept = kept-all N }
+
+  -- A step that was lent the middle workspace in the first one's place leaves the first.
+  pub frame-first : {l u y z w l′ u′ z′ w′ : List Value} → UpdateFrame N c m l u z [] w l′ u′ z′ [] w′ → UpdateFrame N c m l u y z w l′ u′ y z′ w′
+  frame-first h = record { l-kept = h .l-kept; u-kept = h .u-kept; y-kept = kept-all N; z-kept = h .y-kept; w-kept = h .w-kept }
+
+  -- Where one buffer alone was written.
+  pub frame-l : {l u y z w l′ : List Value} → Kept N (LPlace c m) l l′ → UpdateFrame N c m l u y z w l′ u y z w
+  frame-l h = record { l-kept = h; u-kept = kept-all N; y-kept = kept-all N; z-kept = kept-all N; w-kept = kept-all N }
+
+  pub frame-u : {l u y z w u′ : List Value} → Kept N (UPlace c m) u u′ → UpdateFrame N c m l u y z w l u′ y z w
+  frame-u h = record { l-kept = kept-all N; u-kept = h; y-kept = kept-all N; z-kept = kept-all N; w-kept = kept-all N }
+
+  pub frame-y : {l u y z w y′ : List Value} → Kept N (λ q. q < m) y y′ → UpdateFrame N c m l u y z w l u y′ z w
+  frame-y h = record { l-kept = kept-all N; u-kept = kept-all N; y-kept = h; z-kept = kept-all N; w-kept = kept-all N }
+
+  pub frame-w : {l u y z w w′ : List Value} → Kept N (λ q. q < m) w w′ → UpdateFrame N c m l u y z w l u y z w′
+  frame-w h = record { l-kept = kept-all N; u-kept = kept-all N; y-kept = kept-all N; z-kept = kept-all N; w-kept = h }
+
+  -- ---- the factors of a state that agrees, and what was written before
+
+  pub updated-as : {Q R : State Value} {l u y z w l′ u′ y′ z′ w′ : List Value} → Agree Q R → Updated N c m Q l u y z w l′ u′ y′ z′ w′ → Updated N c m R l u y z w l′ u′ y′ z′ w′
+  updated-as {Q} {R} {l′ = l′} {u′ = u′} same d = record { agree = agree-trans (subst (λ (k : ℕ). Agree (stateAt N c k l′ u′) Q) (same .n) (d .agree)) same; frame = d .frame }

@@ -1,15 +1,11 @@
 // Replacing a column of the matrix, on lent slices. The workspaces' first n entries are scratch.
-ghost use mathlib.Core.Path.{_≡_};
 ghost use Prim.Native.Nat.{_≤_, _<_};
 ghost use lib.ListN.{length};
 ghost use lib.Ieee.{binary64};
 ghost use Rattle.numbers.specs.NumberForm.{ieee};
-ghost use Rattle.numbers.specs.Tolerances.{tinyOf};
-ghost use Rattle.machine.specs.Updates.{columnReplaced};
-ghost use Rattle.machine.specs.Counts.{columnReplacedCount};
-ghost use Rattle.storage.specs.Views.{viewL, viewU};
+ghost use Rattle.machine.specs.Calls as calls;
+ghost use Rattle.storage.specs.Updated.{CarriedOut};
 ghost use Rattle.buffers.specs.Performed.{Room};
-ghost use Rattle.stages.specs.Stages.{Updated};
 use numerics::tolerance::Numerics;
 use products::l_product;
 use stages::restore;
@@ -28,11 +24,9 @@ pub fn replace_column(
     numerics: Numerics,
 ) -> usize
     requires { ⌜ Room (ieee binary64) stride n (now l) (now u) × ((n ≤ length (now y)) × ((n ≤ length (now z)) × ((n ≤ length (now w)) × (column < n)))) ⌝ }
-    ensures { λ r. ⌜ Updated (ieee binary64) stride n n (columnReplaced (ieee binary64) (numerics .epsilon) (tinyOf binary64 (numerics .epsilon) (numerics .«update_tiny»)) n
-        (viewL (ieee binary64) stride (now (l .entry))) (viewU (ieee binary64) stride (now (u .entry))) column (now (z .entry)))
-        (now (l .entry)) (now (u .entry)) (now (y .entry)) (now (z .entry)) (now (w .entry)) (now (l .exit)) (now (u .exit)) (now (y .exit)) (now (z .entry)) (now (w .exit))
-        × (r ≡ columnReplacedCount (ieee binary64) (numerics .epsilon) (tinyOf binary64 (numerics .epsilon) (numerics .«update_tiny»)) n
-        (viewL (ieee binary64) stride (now (l .entry))) (viewU (ieee binary64) stride (now (u .entry))) column (now (z .entry))) ⌝ }
+    ensures { λ r. ⌜ CarriedOut (ieee binary64) (numerics .epsilon) (numerics .tiny) stride n n (calls.replaceColumn column (now (z .entry)))
+        (now (l .entry)) (now (u .entry)) (now (y .entry)) (now (z .entry)) (now (w .entry))
+        (now (l .exit)) (now (u .exit)) (now (y .exit)) (now (z .entry)) (now (w .exit)) r ⌝ }
 {
     l_product(n, stride, l, z, w);
     write_u_column(u, column, column + 1, stride, w);

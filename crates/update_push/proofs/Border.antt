@@ -7,20 +7,24 @@ use lib.Dec.{eqb, eqb→eq}
 use lib.ListN.{length, set}
 use lib.Seq.{getD-set-same, getD-set-other}
 use Rattle.numbers.specs.NumberForm.{NumberForm}
+use Rattle.machine.specs.Tables.{stateOf}
 use Rattle.machine.specs.Products.{entry, product}
 use Rattle.machine.specs.Forward.{forward}
 use Rattle.machine.specs.Updates.{bordered, pushed}
-use Rattle.machine.specs.Agreement.{AgreeWithin}
-use Rattle.machine.specs.Counts.{forwardCount, pushedCount}
-use Rattle.machine.proofs.Choice.{neqb→ne, choose, pick}
+use Rattle.machine.specs.Calls.{push}
+use Rattle.machine.specs.Machine.{accepted}
+use Rattle.machine.specs.Agreement.{Agree, AgreeWithin}
+use Rattle.machine.specs.Counts.{forwardCount, pushedCount, acceptedCount}
+use Rattle.machine.proofs.Choice.{neqb→ne, choose, pick, within-state}
 use Rattle.storage.specs.Places.{lIndex, uIndex}
-use Rattle.storage.specs.Views.{viewL, viewU}
+use Rattle.storage.specs.Views.{viewL, viewU, stateAt}
+use Rattle.storage.specs.Updated.{CarriedOut}
 use Rattle.storage.proofs.Kept.{kept-all, kept-set, kept-then, kept-more}
 use Rattle.storage.proofs.Places.{uIndex-injective}
 use Rattle.ranges.specs.Written.{Written}
 use Rattle.buffers.specs.Performed.{workOf, Performed}
-use Rattle.stages.specs.Stages.{withUnitRow, LUpdated, Updated}
-use Rattle.stages.proofs.StageLaws.{l-column, l-column-kept, u-column-other, u-column-kept, factors-agree, forward-agrees, forward-counted}
+use Rattle.stages.specs.Stages.{withUnitRow, LUpdated}
+use Rattle.stages.proofs.StageLaws.{l-column, l-column-kept, u-column-other, u-column-kept, forward-agrees, forward-counted}
 
 module _ (N : NumberForm) (E T : N .Value) where
   open NumberForm N using (Value, zero as 𝟎, absent)
@@ -52,28 +56,33 @@ module _ (N : NumberForm) (E T : N .Value) where
       v = λ j h. absurd (omega arith);
     }
 
-    push-done : {l′ u′ y′ : List Value} → Performed N c n 0 n 0 (forward N E T 0 (n - 1) n) l₂ (set u₁ d 𝟎) y [] l′ u′ y′ []
-        → Updated N c n n (pushed N E T (n - 1) (viewL N c l) (viewU N c u) y z (entry N y (n - 1))) l u y z w l′ u′ y′ z w₁
+    push-agrees : {l′ u′ y′ : List Value} → Performed N c n 0 n 0 (forward N E T 0 (n - 1) n) l₂ (set u₁ d 𝟎) y [] l′ u′ y′ []
+        → Agree (stateAt N c (suc (n - 1)) l′ u′) (stateOf (suc (n - 1)) (pushed N E T (n - 1) (viewL N c l) (viewU N c u) y z (entry N y (n - 1))))
     unfolding pushed
-    push-done {l′} {u′} {y′} p = record {
-      agree = let e : suc (n - 1) ≡ n = omega arith in rw e (factors-agree N n c l′ u′ y′ [] (omega arith)
-          (forward-agrees N E T c n 0 (n - 1) n l₂ (set u₁ d 𝟎) y [] (omega arith) (omega arith) (omega arith) (omega arith) p border-agrees));
-      l-kept = kept-then N (kept-then N (l-column-kept N c (n - 1) (n - 1) (omega arith) cleared n (omega arith) (omega arith)) (unit .kept)) (p .l-kept);
-      u-kept = kept-then N (kept-then N (u-column-kept N c (n - 1) (n - 1) (omega arith) (omega arith) us n (omega arith))
-          (kept-set N u₁ d 𝟎 (n - 1, n - 1, omega arith, omega arith, is-d))) (p .u-kept);
-      y-kept = p .y-kept;
-      z-kept = kept-all N;
-      w-kept = kept-more N (λ q a. omega arith) (ws .kept);
-    }
+    push-agrees p =
+        let e : suc (n - 1) ≡ n = omega arith in rw e (within-state n (omega arith)
+        (forward-agrees N E T c n 0 (n - 1) n l₂ (set u₁ d 𝟎) y [] (omega arith) (omega arith) (omega arith) (omega arith) p border-agrees))
 
     push-counted : {a : ℕ} → a ≡ forwardCount N E T 0 (n - 1) n (workOf N c l₂ (set u₁ d 𝟎) y []) → a ≡ pushedCount N E T (n - 1) (viewL N c l) (viewU N c u) y z (entry N y (n - 1))
     unfolding pushedCount
     push-counted is-a =
         let e : suc (n - 1) ≡ n = omega arith in rw e (forward-counted N E T c n 0 (n - 1) n l₂ (set u₁ d 𝟎) y [] (omega arith) (omega arith) (omega arith) is-a border-agrees)
 
-    -- the factors, and how many pair steps they took
     pub push-outcome : {l′ u′ y′ : List Value} {a : ℕ}
         → Performed N c n 0 n 0 (forward N E T 0 (n - 1) n) l₂ (set u₁ d 𝟎) y [] l′ u′ y′ [] × (a ≡ forwardCount N E T 0 (n - 1) n (workOf N c l₂ (set u₁ d 𝟎) y []))
-        → Updated N c n n (pushed N E T (n - 1) (viewL N c l) (viewU N c u) y z (entry N y (n - 1))) l u y z w l′ u′ y′ z w₁
-        × (a ≡ pushedCount N E T (n - 1) (viewL N c l) (viewU N c u) y z (entry N y (n - 1)))
-    push-outcome ahead = (push-done (ahead .0), push-counted (ahead .1))
+        → CarriedOut N E T c (n - 1) n (push y z (entry N y (n - 1))) l u y z w l′ u′ y′ z w₁ a
+    unfolding accepted acceptedCount
+    push-outcome ahead = record {
+      factors = record {
+        agree = push-agrees (ahead .0);
+        frame = record {
+          l-kept = kept-then N (kept-then N (l-column-kept N c (n - 1) (n - 1) (omega arith) cleared n (omega arith) (omega arith)) (unit .kept)) (ahead .0 .frame .l-kept);
+          u-kept = kept-then N (kept-then N (u-column-kept N c (n - 1) (n - 1) (omega arith) (omega arith) us n (omega arith))
+              (kept-set N u₁ d 𝟎 (n - 1, n - 1, omega arith, omega arith, is-d))) (ahead .0 .frame .u-kept);
+          y-kept = ahead .0 .frame .y-kept;
+          z-kept = kept-all N;
+          w-kept = kept-more N (λ q a. omega arith) (ws .kept);
+        };
+      };
+      steps = push-counted (ahead .1);
+    }

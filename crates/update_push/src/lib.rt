@@ -1,16 +1,12 @@
 // Appending a row and a column to the factors, on lent slices. The workspaces' first n entries are scratch.
-ghost use mathlib.Core.Path.{_≡_};
 ghost use Prim.Native.Nat.{_-_, _≤_, _<_};
 ghost use lib.ListN.{length};
 ghost use lib.Ieee.{binary64};
 ghost use Rattle.numbers.specs.NumberForm.{ieee};
-ghost use Rattle.numbers.specs.Tolerances.{tinyOf};
 ghost use Rattle.machine.specs.Products.{entry};
-ghost use Rattle.machine.specs.Updates.{pushed};
-ghost use Rattle.machine.specs.Counts.{pushedCount};
-ghost use Rattle.storage.specs.Views.{viewL, viewU};
+ghost use Rattle.machine.specs.Calls as calls;
+ghost use Rattle.storage.specs.Updated.{CarriedOut};
 ghost use Rattle.buffers.specs.Performed.{Room};
-ghost use Rattle.stages.specs.Stages.{Updated};
 use forward::forward;
 use l_columns::clear_l_column;
 use numerics::tolerance::Numerics;
@@ -32,11 +28,10 @@ pub fn push(
     numerics: Numerics,
 ) -> usize
     requires { ⌜ Room (ieee binary64) stride n (now l) (now u) × ((n ≤ length (now y)) × ((n - 1 ≤ length (now z)) × ((n - 1 ≤ length (now w)) × (0 < n)))) ⌝ }
-    ensures { λ r. ⌜ Updated (ieee binary64) stride n n (pushed (ieee binary64) (numerics .epsilon) (tinyOf binary64 (numerics .epsilon) (numerics .«update_tiny»)) (n - 1)
-        (viewL (ieee binary64) stride (now (l .entry))) (viewU (ieee binary64) stride (now (u .entry))) (now (y .entry)) (now (z .entry)) (entry (ieee binary64) (now (y .entry)) (n - 1)))
-        (now (l .entry)) (now (u .entry)) (now (y .entry)) (now (z .entry)) (now (w .entry)) (now (l .exit)) (now (u .exit)) (now (y .exit)) (now (z .entry)) (now (w .exit))
-        × (r ≡ pushedCount (ieee binary64) (numerics .epsilon) (tinyOf binary64 (numerics .epsilon) (numerics .«update_tiny»)) (n - 1)
-        (viewL (ieee binary64) stride (now (l .entry))) (viewU (ieee binary64) stride (now (u .entry))) (now (y .entry)) (now (z .entry)) (entry (ieee binary64) (now (y .entry)) (n - 1))) ⌝ }
+    ensures { λ r. ⌜ CarriedOut (ieee binary64) (numerics .epsilon) (numerics .tiny) stride (n - 1) n
+        (calls.push (now (y .entry)) (now (z .entry)) (entry (ieee binary64) (now (y .entry)) (n - 1)))
+        (now (l .entry)) (now (u .entry)) (now (y .entry)) (now (z .entry)) (now (w .entry))
+        (now (l .exit)) (now (u .exit)) (now (y .exit)) (now (z .entry)) (now (w .exit)) r ⌝ }
 {
     let last = n - 1;
     l_product(last, stride, l, z, w);

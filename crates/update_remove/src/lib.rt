@@ -1,15 +1,11 @@
 // Removing a row and a column of the matrix, on lent slices. The workspaces' first n entries are scratch.
-ghost use mathlib.Core.Path.{_≡_};
 ghost use Prim.Native.Nat.{_-_, _≤_, _<_};
 ghost use lib.ListN.{length};
 ghost use lib.Ieee.{binary64};
 ghost use Rattle.numbers.specs.NumberForm.{ieee};
-ghost use Rattle.numbers.specs.Tolerances.{tinyOf};
-ghost use Rattle.machine.specs.Updates.{removed};
-ghost use Rattle.machine.specs.Counts.{removedCount};
-ghost use Rattle.storage.specs.Views.{viewL, viewU};
+ghost use Rattle.machine.specs.Calls as calls;
+ghost use Rattle.storage.specs.Updated.{CarriedOut};
 ghost use Rattle.buffers.specs.Performed.{Room};
-ghost use Rattle.stages.specs.Stages.{Updated};
 use backward::backward;
 use l_columns::copy_l_column;
 use l_columns::read_l_column;
@@ -31,11 +27,9 @@ pub fn remove(
     numerics: Numerics,
 ) -> usize
     requires { ⌜ Room (ieee binary64) stride n (now l) (now u) × ((n ≤ length (now y)) × ((n ≤ length (now z)) × ((n ≤ length (now w)) × ((row < n) × (column < n))))) ⌝ }
-    ensures { λ r. ⌜ Updated (ieee binary64) stride n (n - 1) (removed (ieee binary64) (numerics .epsilon) (tinyOf binary64 (numerics .epsilon) (numerics .«update_tiny»)) (n - 1)
-        (viewL (ieee binary64) stride (now (l .entry))) (viewU (ieee binary64) stride (now (u .entry))) row column)
-        (now (l .entry)) (now (u .entry)) (now (y .entry)) (now (z .entry)) (now (w .entry)) (now (l .exit)) (now (u .exit)) (now (y .exit)) (now (z .exit)) (now (w .exit))
-        × (r ≡ removedCount (ieee binary64) (numerics .epsilon) (tinyOf binary64 (numerics .epsilon) (numerics .«update_tiny»)) (n - 1)
-        (viewL (ieee binary64) stride (now (l .entry))) (viewU (ieee binary64) stride (now (u .entry))) row column) ⌝ }
+    ensures { λ r. ⌜ CarriedOut (ieee binary64) (numerics .epsilon) (numerics .tiny) stride n n (calls.remove row column)
+        (now (l .entry)) (now (u .entry)) (now (y .entry)) (now (z .entry)) (now (w .entry))
+        (now (l .exit)) (now (u .exit)) (now (y .exit)) (now (z .exit)) (now (w .exit)) r ⌝ }
 {
     let column_steps = drop_column(column, n, stride, l, u, y, w, numerics);
     let last = n - 1;

@@ -11,17 +11,21 @@ use Rattle.machine.specs.Products.{entry}
 use Rattle.machine.specs.Forward.{forward, forwardRows, copyDenseToRow}
 use Rattle.machine.specs.Backward.{trim, backward}
 use Rattle.machine.specs.Updates.{bordered, columnCleared, columnTaken, unitRow, pushed, rowReplacedFrom, rowReplaced}
+use Rattle.machine.specs.Calls.{replaceRow}
+use Rattle.machine.specs.Machine.{accepted}
 use Rattle.machine.specs.Agreement.{AgreeWithin}
-use Rattle.machine.specs.Counts.{forwardCount, forwardRowsCount, backwardCount, pushedCount, rowReplacedFromCount, rowReplacedCount}
-use Rattle.machine.proofs.Choice.{choose, within-from, within-trans}
+use Rattle.machine.specs.Counts.{forwardCount, forwardRowsCount, backwardCount, pushedCount, rowReplacedFromCount, rowReplacedCount, acceptedCount}
+use Rattle.machine.proofs.Choice.{choose, within-from, within-trans, within-state}
 use Rattle.machine.proofs.Backward.{trim-same, trim-le}
 use Rattle.storage.specs.Places.{lIndex}
 use Rattle.storage.specs.Views.{viewL, viewU}
-use Rattle.storage.proofs.Kept.{kept-then, kept-more}
+use Rattle.storage.specs.Updated.{CarriedOut}
+use Rattle.storage.proofs.Kept.{kept-more}
+use Rattle.storage.proofs.Frames.{frame-then, frame-first, frame-middle, frame-last, frame-l, frame-w}
 use Rattle.ranges.specs.Written.{Written}
 use Rattle.buffers.specs.Performed.{workOf, Performed}
-use Rattle.stages.specs.Stages.{withUnitRow, LUpdated, Updated}
-use Rattle.stages.proofs.StageLaws.{l-column, l-column-kept, factors-agree, forward-agrees, backward-agrees, forward-counted, backward-counted, forward-counted-le, backward-counted-le}
+use Rattle.stages.specs.Stages.{withUnitRow, LUpdated}
+use Rattle.stages.proofs.StageLaws.{l-column, l-column-kept, forward-agrees, backward-agrees, forward-counted, backward-counted, forward-counted-le, backward-counted-le}
 
 module _ (N : NumberForm) (E T : N .Value) where
   open NumberForm N using (Value, zero as 𝟎)
@@ -92,16 +96,6 @@ module _ (N : NumberForm) (E T : N .Value) where
         go true e = within-trans (within-from (omega arith) row-agrees) (single-row (viewL N c l) (viewU N c u) y n r s (eqb→eq n 1 (rw e tt)) hr selected-below)
         go false e = rw (← chosen) (within-from (omega arith) row-agrees)
 
-    replace-row-done : Updated N c n n (rowReplaced N E T n (viewL N c l) (viewU N c u) r y) l u y z w l₄ u₃ y₃ z₂ w₂
-    replace-row-done = record {
-      agree = factors-agree N n c l₄ u₃ y₃ [] (omega arith) replaced-agrees;
-      l-kept = kept-then N (kept-then N (l-column-kept N c r n (omega arith) cleared n (omega arith) hr) (p .l-kept)) (kept-then N (unit .kept) (q .l-kept));
-      u-kept = kept-then N (p .u-kept) (q .u-kept);
-      y-kept = q .y-kept;
-      z-kept = p .y-kept;
-      w-kept = kept-then N (kept-more N (λ q a. omega arith) (ws .kept)) (p .v-kept);
-    }
-
     -- at dimension 1 there is no row to eliminate, as in a first push
     replace-row-counted : {a b : ℕ} → a ≡ backwardCount N E T 0 s n (workOf N c l₁ u z w₁) → b ≡ forwardCount N E T 0 s n (workOf N c l₃ u₂ y [])
         → a + b ≡ rowReplacedCount N E T n (viewL N c l) (viewU N c u) r y
@@ -121,7 +115,15 @@ module _ (N : NumberForm) (E T : N .Value) where
             let g = forward-counted N E T c n 0 s n l₃ u₂ y [] (omega arith) selected-below (omega (arith, selected-below)) is-b row-placed in
             rw (← chosen) (λ t. f t + g t)
 
-    -- the factors, and how many pair steps they took
     pub replace-row-outcome : {a b : ℕ} → a ≡ backwardCount N E T 0 s n (workOf N c l₁ u z w₁) → b ≡ forwardCount N E T 0 s n (workOf N c l₃ u₂ y [])
-        → Updated N c n n (rowReplaced N E T n (viewL N c l) (viewU N c u) r y) l u y z w l₄ u₃ y₃ z₂ w₂ × (a + b ≡ rowReplacedCount N E T n (viewL N c l) (viewU N c u) r y)
-    replace-row-outcome is-a is-b = (replace-row-done, replace-row-counted is-a is-b)
+        → CarriedOut N E T c n n (replaceRow r y) l u y z w l₄ u₃ y₃ z₂ w₂ (a + b)
+    unfolding accepted acceptedCount
+    replace-row-outcome is-a is-b = record {
+      factors = record {
+        agree = within-state n (omega arith) replaced-agrees;
+        frame = frame-then N (frame-w N (kept-more N (λ q a. omega arith) (ws .kept)))
+            (frame-then N (frame-l N (l-column-kept N c r n (omega arith) cleared n (omega arith) hr))
+            (frame-then N (frame-first N (p .frame)) (frame-then N (frame-l N (unit .kept)) (frame-middle N (frame-last N (q .frame))))));
+      };
+      steps = replace-row-counted is-a is-b;
+    }

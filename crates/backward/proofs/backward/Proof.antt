@@ -5,7 +5,6 @@ use Prim.Native.Nat.{_-_}
 use native.Mathlib.Omega.{arith}
 use lib.Ieee.{binary64}
 use Rattle.numbers.specs.NumberForm.{ieee}
-use Rattle.numbers.specs.Tolerances.{tinyOf}
 use Rattle.machine.specs.Backward.{backward}
 use Rattle.machine.specs.Counts.{backwardCount}
 use Rattle.machine.proofs.Choice.{within-from}
@@ -49,23 +48,23 @@ backward-rows-requires c κs =
 same-length : tie.Need-same-length
 same-length c =
     let backward-rows = let t : tie.After-backward-rows = search in t .backward-rows in
-    backward-rows .ensures .0 .l-kept .long
+    backward-rows .ensures .0 .frame .l-kept .long
 
 same-length-2 : tie.Need-same-length-2
 same-length-2 c =
     let backward-rows = let t : tie.After-backward-rows = search in t .backward-rows in
-    backward-rows .ensures .0 .u-kept .long
+    backward-rows .ensures .0 .frame .u-kept .long
 
 same-length-3 : tie.Need-same-length-3
 same-length-3 c =
     let backward-rows = let t : tie.After-backward-rows = search in t .backward-rows in
     let copy = let t : tie.After-copy = search in t .copy in
-    backward-rows .ensures .0 .y-kept .long ∙ copy .ensures .kept .long
+    backward-rows .ensures .0 .frame .y-kept .long ∙ copy .ensures .kept .long
 
 same-length-4 : tie.Need-same-length-4
 same-length-4 c =
     let backward-rows = let t : tie.After-backward-rows = search in t .backward-rows in
-    backward-rows .ensures .0 .v-kept .long
+    backward-rows .ensures .0 .frame .w-kept .long
 
 returns : tie.Need-returns
 unfolding backward backwardCount way
@@ -79,8 +78,8 @@ returns c =
       performed-then (ieee binary64)
           copied
           (backward-rows .ensures .0) (omega arith)
-          (λ S R h. within-from (omega arith) (backward-rows-same (ieee binary64) (a .numerics .epsilon) (tinyOf binary64 (a .numerics .epsilon) (a .numerics .«update_tiny»)) (a .n) (a .columns) (omega arith) (a .selected) (a .selected - a .first) (omega arith) (omega arith) h)),
-      backward-rows .ensures .1 ∙ backward-rows-count-same (ieee binary64) (a .numerics .epsilon) (tinyOf binary64 (a .numerics .epsilon) (a .numerics .«update_tiny»)) (a .n) (a .columns) (omega arith) (a .selected) (a .selected - a .first) (omega arith) (omega arith) (copied .agree),
+          (λ S R h. within-from (omega arith) (backward-rows-same (ieee binary64) (a .numerics .epsilon) (a .numerics .tiny) (a .n) (a .columns) (omega arith) (a .selected) (a .selected - a .first) (omega arith) (omega arith) h)),
+      backward-rows .ensures .1 ∙ backward-rows-count-same (ieee binary64) (a .numerics .epsilon) (a .numerics .tiny) (a .n) (a .columns) (omega arith) (a .selected) (a .selected - a .first) (omega arith) (omega arith) (copied .agree),
     )
 
 pub backward-spec : {M : Type 1} → statement M

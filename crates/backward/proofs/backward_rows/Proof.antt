@@ -5,20 +5,19 @@ use native.Mathlib.Omega.{arith}
 use lib.Ieee.{binary64}
 use denote.Ref.{now}
 use Rattle.numbers.specs.NumberForm.{ieee}
-use Rattle.numbers.specs.Tolerances.{tinyOf}
 use Rattle.machine.specs.Backward.{backwardRow, backwardRows}
 use Rattle.machine.specs.Counts.{backwardRowsCount}
 use Rattle.machine.proofs.Backward.{backward-row-same}
 use Rattle.machine.proofs.CountLimits.{backward-row-count-le, backward-rows-count-le}
 use Rattle.buffers.specs.Performed.{workOf, Performed}
-use Rattle.buffers.proofs.Buffers.{performed-none, performed-then, performed-as}
+use Rattle.buffers.proofs.Buffers.{room-kept, performed-none, performed-then, performed-as}
 use Rattle.backward.proofs.Rows.{backward-rows-none, backward-rows-more, backward-count-none, backward-count-more}
 use Rattle.backward.proofs.backward_rows.Statement.{statement}
 use Rattle.backward.proofs.backward_rows.Tie as tie
 
 abbrev Inv-loop : tie.InvT-loop
-Inv-loop first selected n columns stride l₀ u₀ y₀ v₀ numerics steps₀ row₀ l u y v steps row = (first ≤ row) × ((row ≤ selected) × (Performed (ieee binary64) stride n row columns n (backwardRows (ieee binary64) (numerics .epsilon) (tinyOf binary64 (numerics .epsilon) (numerics .«update_tiny»)) selected columns (selected - row)) l₀ u₀ y₀ v₀ l u y v
-    × (steps ≡ backwardRowsCount (ieee binary64) (numerics .epsilon) (tinyOf binary64 (numerics .epsilon) (numerics .«update_tiny»)) selected columns (selected - row) (workOf (ieee binary64) stride l₀ u₀ y₀ v₀))))
+Inv-loop first selected n columns stride l₀ u₀ y₀ v₀ numerics steps₀ row₀ l u y v steps row = (first ≤ row) × ((row ≤ selected) × (Performed (ieee binary64) stride n row columns n (backwardRows (ieee binary64) (numerics .epsilon) (numerics .tiny) selected columns (selected - row)) l₀ u₀ y₀ v₀ l u y v
+    × (steps ≡ backwardRowsCount (ieee binary64) (numerics .epsilon) (numerics .tiny) selected columns (selected - row) (workOf (ieee binary64) stride l₀ u₀ y₀ v₀))))
 
 abbrev μ-loop : tie.MeasureT-loop
 μ-loop first selected n columns stride l₀ u₀ y₀ v₀ numerics steps₀ row₀ l u y v steps row = row
@@ -32,9 +31,9 @@ sub-row c = omega arith
 backward-row-requires : tie.Need-backward-row-requires Inv-loop μ-loop
 backward-row-requires c κs =
     let p = let s : tie.Start Inv-loop μ-loop = search in s .pre in
-    let k = let t : tie.At-loop Inv-loop μ-loop = search in t .loop .inv .1 .1 .0 in (
-      record { stride = p .0 .stride; dimension = p .0 .dimension; l-long = rw (k .l-kept .long) (p .0 .l-long); u-long = rw (k .u-kept .long) (p .0 .u-long) },
-      (rw (k .y-kept .long) (p .1 .0), (rw (k .v-kept .long) (p .1 .1 .0), omega arith)),
+    let k = let t : tie.At-loop Inv-loop μ-loop = search in t .loop .inv .1 .1 .0 .frame in (
+      room-kept (ieee binary64) (p .0) (k .l-kept .long) (k .u-kept .long),
+      (rw (k .y-kept .long) (p .1 .0), (rw (k .w-kept .long) (p .1 .1 .0), omega arith)),
     )
 
 add-steps : tie.Need-add-steps Inv-loop μ-loop
@@ -44,7 +43,7 @@ add-steps c =
     let row = let t : tie.After-backward-row Inv-loop μ-loop = search in t .backward-row in
     let a = start .args in
     let p = start .pre in
-    omega (arith, loop .inv .1 .1 .1, backward-rows-count-le (ieee binary64) (a .numerics .epsilon) (tinyOf binary64 (a .numerics .epsilon) (a .numerics .«update_tiny»)) (a .selected) (a .columns) (a .selected - loop .row) (workOf (ieee binary64) (a .stride) (now (a .l)) (now (a .u)) (now (a .y)) (now (a .v))), row .ensures .1, backward-row-count-le (ieee binary64) (a .numerics .epsilon) (a .selected) (loop .row - 1) (workOf (ieee binary64) (a .stride) (loop .l) (loop .u) (loop .y) (loop .v)))
+    omega (arith, loop .inv .1 .1 .1, backward-rows-count-le (ieee binary64) (a .numerics .epsilon) (a .numerics .tiny) (a .selected) (a .columns) (a .selected - loop .row) (workOf (ieee binary64) (a .stride) (now (a .l)) (now (a .u)) (now (a .y)) (now (a .v))), row .ensures .1, backward-row-count-le (ieee binary64) (a .numerics .epsilon) (a .selected) (loop .row - 1) (workOf (ieee binary64) (a .stride) (loop .l) (loop .u) (loop .y) (loop .v)))
 
 loop-less : tie.Need-loop-less Inv-loop μ-loop
 loop-less c = omega arith
@@ -61,26 +60,26 @@ loop-again c =
         omega arith,
         (
           performed-as (ieee binary64)
-              (λ S. backwardRow (ieee binary64) (a .numerics .epsilon) (tinyOf binary64 (a .numerics .epsilon) (a .numerics .«update_tiny»)) (a .selected) (a .columns) (loop .row - 1) (backwardRows (ieee binary64) (a .numerics .epsilon) (tinyOf binary64 (a .numerics .epsilon) (a .numerics .«update_tiny»)) (a .selected) (a .columns) (a .selected - loop .row) S))
-              (backward-rows-more (ieee binary64) (a .numerics .epsilon) (tinyOf binary64 (a .numerics .epsilon) (a .numerics .«update_tiny»)) (a .selected) (a .columns) (loop .row) _ (omega arith) (h .1 .0))
+              (λ S. backwardRow (ieee binary64) (a .numerics .epsilon) (a .numerics .tiny) (a .selected) (a .columns) (loop .row - 1) (backwardRows (ieee binary64) (a .numerics .epsilon) (a .numerics .tiny) (a .selected) (a .columns) (a .selected - loop .row) S))
+              (backward-rows-more (ieee binary64) (a .numerics .epsilon) (a .numerics .tiny) (a .selected) (a .columns) (loop .row) _ (omega arith) (h .1 .0))
               (performed-then (ieee binary64) (h .1 .1 .0) (backward-row .ensures .0) (omega arith)
-              (λ S R. backward-row-same (ieee binary64) (a .numerics .epsilon) (tinyOf binary64 (a .numerics .epsilon) (a .numerics .«update_tiny»)) (a .n) (a .columns) (omega arith) (a .selected) (loop .row - 1) (loop .row) (omega arith) (omega arith) (omega arith))),
-          backward-count-more (ieee binary64) (a .numerics .epsilon) (tinyOf binary64 (a .numerics .epsilon) (a .numerics .«update_tiny»)) (a .selected) (a .columns) (a .n) (loop .row) _ (omega arith) (omega arith) (h .1 .0) (omega arith) (h .1 .1 .1) (h .1 .1 .0 .agree) (backward-row .ensures .1),
+              (λ S R. backward-row-same (ieee binary64) (a .numerics .epsilon) (a .numerics .tiny) (a .n) (a .columns) (omega arith) (a .selected) (loop .row - 1) (loop .row) (omega arith) (omega arith) (omega arith))),
+          backward-count-more (ieee binary64) (a .numerics .epsilon) (a .numerics .tiny) (a .selected) (a .columns) (a .n) (loop .row) _ (omega arith) (omega arith) (h .1 .0) (omega arith) (h .1 .1 .1) (h .1 .1 .0 .agree) (backward-row .ensures .1),
         ),
       ),
     )
 
 same-length : tie.Need-same-length Inv-loop μ-loop
-same-length c = c .before .loop .inv .1 .1 .0 .l-kept .long
+same-length c = c .before .loop .inv .1 .1 .0 .frame .l-kept .long
 
 same-length-2 : tie.Need-same-length-2 Inv-loop μ-loop
-same-length-2 c = c .before .loop .inv .1 .1 .0 .u-kept .long
+same-length-2 c = c .before .loop .inv .1 .1 .0 .frame .u-kept .long
 
 same-length-3 : tie.Need-same-length-3 Inv-loop μ-loop
-same-length-3 c = c .before .loop .inv .1 .1 .0 .y-kept .long
+same-length-3 c = c .before .loop .inv .1 .1 .0 .frame .y-kept .long
 
 same-length-4 : tie.Need-same-length-4 Inv-loop μ-loop
-same-length-4 c = c .before .loop .inv .1 .1 .0 .v-kept .long
+same-length-4 c = c .before .loop .inv .1 .1 .0 .frame .w-kept .long
 
 returns : tie.Need-returns Inv-loop μ-loop
 returns c =

@@ -7,7 +7,6 @@ use lib.ListN.{length-set}
 use lib.Ieee.{binary64}
 use Rattle.numbers.specs.Tolerances.{managedEpsilon, managedTiny}
 use Rattle.numbers.specs.NumberForm.{ieee}
-use Rattle.storage.specs.Views.{viewL, viewU}
 use Rattle.copied_data.proofs.CopiedData.{push-of-copy}
 use Rattle.copied_data.proofs.push.Statement.{statement}
 use Rattle.copied_data.proofs.push.Tie as tie
@@ -54,7 +53,7 @@ unfolding way
 same-length-3 c =
     let push = let t : tie.After-push = search in t .push in
     let m : tie.After-managed = search in
-    (rw length-set at (push .ensures .0 .y-kept .long)) ∙ way m .copied .copy .ensures .kept .long
+    (rw length-set at (push .ensures .factors .frame .y-kept .long)) ∙ way m .copied .copy .ensures .kept .long
 
 same-length-4 : tie.Need-same-length-4
 same-length-4 c = search needs
@@ -68,7 +67,7 @@ returns c =
     let p = way m .start .pre .1 .0 in
     let k = way m .copied .copy .ensures .kept .long in
     let b = m .managed .ensures in
-    push-of-copy (ieee binary64) (managedEpsilon binary64) (managedTiny binary64) (a .n) (a .capacity) (viewL (ieee binary64) (a .capacity) (now (a .l))) (viewU (ieee binary64) (a .capacity) (now (a .u)))
+    push-of-copy (ieee binary64) (managedEpsilon binary64) (managedTiny binary64) (a .n) (a .capacity)
     (now (a .row)) (now (a .column)) (a .diagonal) (way m .copied .copy .ensures) (omega (arith, p, k)) (rw (b .0, b .1) at (push .ensures))
 
 pub push-spec : {M : Type 1} → statement M

@@ -4,7 +4,6 @@ use denote.Ref.{now}
 use lib.Ieee.{binary64}
 use Rattle.numbers.specs.Tolerances.{managedEpsilon, managedTiny}
 use Rattle.numbers.specs.NumberForm.{ieee}
-use Rattle.storage.specs.Views.{viewL, viewU}
 use Rattle.copied_data.proofs.CopiedData.{row-of-copy}
 use Rattle.copied_data.proofs.replace_row.Statement.{statement}
 use Rattle.copied_data.proofs.replace_row.Tie as tie
@@ -49,7 +48,7 @@ returns c =
     let a = way m .start .args in
     let p = way m .start .pre in
     let b = m .managed .ensures in
-    row-of-copy (ieee binary64) (managedEpsilon binary64) (managedTiny binary64) (a .n) (a .capacity) (viewL (ieee binary64) (a .capacity) (now (a .l))) (viewU (ieee binary64) (a .capacity) (now (a .u)))
+    row-of-copy (ieee binary64) (managedEpsilon binary64) (managedTiny binary64) (a .n) (a .capacity)
     (a .row) (now (a .values)) (way m .copied .copy .ensures) (p .1 .1 .1 .1 .1) (rw (b .0, b .1) at (replace-row .ensures))
 
 pub replace-row-spec : {M : Type 1} → statement M

@@ -6,21 +6,20 @@ use lib.Ieee.{binary64}
 use denote.Ref.{now}
 use mathlib.Core.List.{[]}
 use Rattle.numbers.specs.NumberForm.{ieee}
-use Rattle.numbers.specs.Tolerances.{tinyOf}
 use Rattle.machine.specs.Forward.{forwardRow, forwardRows, forward}
 use Rattle.machine.specs.Counts.{forwardRowsCount, forwardCount}
 use Rattle.machine.proofs.Forward.{forward-row-same, copy-dense-same}
 use Rattle.machine.proofs.CountLimits.{forward-row-count-le, forward-rows-count-le}
 use Rattle.ranges.proofs.RowParts.{part-fits}
 use Rattle.buffers.specs.Performed.{workOf, Performed}
-use Rattle.buffers.proofs.Buffers.{performed-none, performed-then, performed-as}
+use Rattle.buffers.proofs.Buffers.{room-kept, performed-none, performed-then, performed-as}
 use Rattle.forward.proofs.Rows.{forward-rows-none, forward-rows-more, forward-count-none, forward-count-more, dense-copied}
 use Rattle.forward.proofs.forward.Statement.{statement}
 use Rattle.forward.proofs.forward.Tie as tie
 
 abbrev Inv-loop : tie.InvT-loop
-Inv-loop first last n columns stride l₀ u₀ y₀ numerics steps₀ row₀ l u y steps row = (first ≤ row) × ((row ≤ last) × (Performed (ieee binary64) stride n 0 columns 0 (forwardRows (ieee binary64) (numerics .epsilon) (tinyOf binary64 (numerics .epsilon) (numerics .«update_tiny»)) first last columns (row - first)) l₀ u₀ y₀ [] l u y []
-    × (steps ≡ forwardRowsCount (ieee binary64) (numerics .epsilon) (tinyOf binary64 (numerics .epsilon) (numerics .«update_tiny»)) first last columns (row - first) (workOf (ieee binary64) stride l₀ u₀ y₀ []))))
+Inv-loop first last n columns stride l₀ u₀ y₀ numerics steps₀ row₀ l u y steps row = (first ≤ row) × ((row ≤ last) × (Performed (ieee binary64) stride n 0 columns 0 (forwardRows (ieee binary64) (numerics .epsilon) (numerics .tiny) first last columns (row - first)) l₀ u₀ y₀ [] l u y []
+    × (steps ≡ forwardRowsCount (ieee binary64) (numerics .epsilon) (numerics .tiny) first last columns (row - first) (workOf (ieee binary64) stride l₀ u₀ y₀ []))))
 
 abbrev μ-loop : tie.MeasureT-loop
 μ-loop first last n columns stride l₀ u₀ y₀ numerics steps₀ row₀ l u y steps row = last - row
@@ -32,8 +31,8 @@ forward-row-requires : tie.Need-forward-row-requires Inv-loop μ-loop
 forward-row-requires c κs =
     let p = let s : tie.Start Inv-loop μ-loop = search in s .pre in
     let h = let t : tie.At-loop Inv-loop μ-loop = search in t .loop .inv in
-    let k = h .1 .1 .0 in (
-      record { stride = p .0 .stride; dimension = p .0 .dimension; l-long = rw (k .l-kept .long) (p .0 .l-long); u-long = rw (k .u-kept .long) (p .0 .u-long) },
+    let k = h .1 .1 .0 .frame in (
+      room-kept (ieee binary64) (p .0) (k .l-kept .long) (k .u-kept .long),
       (rw (k .y-kept .long) (p .1 .0), omega arith),
     )
 
@@ -44,7 +43,7 @@ add-steps c =
     let row = let t : tie.After-forward-row Inv-loop μ-loop = search in t .forward-row in
     let a = start .args in
     let p = start .pre in
-    omega (arith, loop .inv .1 .1 .1, forward-rows-count-le (ieee binary64) (a .numerics .epsilon) (tinyOf binary64 (a .numerics .epsilon) (a .numerics .«update_tiny»)) (a .first) (a .last) (a .columns) (loop .row - a .first) (workOf (ieee binary64) (a .stride) (now (a .l)) (now (a .u)) (now (a .y)) []), row .ensures .1, forward-row-count-le (ieee binary64) (a .numerics .epsilon) (loop .row) (workOf (ieee binary64) (a .stride) (loop .l) (loop .u) (loop .y) []))
+    omega (arith, loop .inv .1 .1 .1, forward-rows-count-le (ieee binary64) (a .numerics .epsilon) (a .numerics .tiny) (a .first) (a .last) (a .columns) (loop .row - a .first) (workOf (ieee binary64) (a .stride) (now (a .l)) (now (a .u)) (now (a .y)) []), row .ensures .1, forward-row-count-le (ieee binary64) (a .numerics .epsilon) (loop .row) (workOf (ieee binary64) (a .stride) (loop .l) (loop .u) (loop .y) []))
 
 add-row : tie.Need-add-row Inv-loop μ-loop
 add-row c = omega arith
@@ -64,11 +63,11 @@ loop-again c =
         omega arith,
         (
           performed-as (ieee binary64)
-              (λ S. forwardRow (ieee binary64) (a .numerics .epsilon) (tinyOf binary64 (a .numerics .epsilon) (a .numerics .«update_tiny»)) (a .last) (a .columns) (loop .row) (forwardRows (ieee binary64) (a .numerics .epsilon) (tinyOf binary64 (a .numerics .epsilon) (a .numerics .«update_tiny»)) (a .first) (a .last) (a .columns) (loop .row - a .first) S))
-              (forward-rows-more (ieee binary64) (a .numerics .epsilon) (tinyOf binary64 (a .numerics .epsilon) (a .numerics .«update_tiny»)) (a .first) (a .last) (a .columns) (loop .row) _ (h .0))
+              (λ S. forwardRow (ieee binary64) (a .numerics .epsilon) (a .numerics .tiny) (a .last) (a .columns) (loop .row) (forwardRows (ieee binary64) (a .numerics .epsilon) (a .numerics .tiny) (a .first) (a .last) (a .columns) (loop .row - a .first) S))
+              (forward-rows-more (ieee binary64) (a .numerics .epsilon) (a .numerics .tiny) (a .first) (a .last) (a .columns) (loop .row) _ (h .0))
               (performed-then (ieee binary64) (h .1 .1 .0) (e .0) (omega arith)
-              (λ S R. forward-row-same (ieee binary64) (a .numerics .epsilon) (tinyOf binary64 (a .numerics .epsilon) (a .numerics .«update_tiny»)) (a .n) (a .columns) 0 (omega arith) (a .last) (loop .row) 0 (omega arith) (omega arith) (omega arith))),
-          forward-count-more (ieee binary64) (a .numerics .epsilon) (tinyOf binary64 (a .numerics .epsilon) (a .numerics .«update_tiny»)) (a .first) (a .last) (a .columns) (a .n) (loop .row) _ (omega arith) (h .0) (omega arith) (h .1 .1 .1) (h .1 .1 .0 .agree) (e .1),
+              (λ S R. forward-row-same (ieee binary64) (a .numerics .epsilon) (a .numerics .tiny) (a .n) (a .columns) 0 (omega arith) (a .last) (loop .row) 0 (omega arith) (omega arith) (omega arith))),
+          forward-count-more (ieee binary64) (a .numerics .epsilon) (a .numerics .tiny) (a .first) (a .last) (a .columns) (a .n) (loop .row) _ (omega arith) (h .0) (omega arith) (h .1 .1 .1) (h .1 .1 .0 .agree) (e .1),
         ),
       ),
     )
@@ -84,7 +83,7 @@ copy-requires c κs =
     let start : tie.Start Inv-loop μ-loop = search in
     let a = start .args in
     let p = start .pre in
-    let k = let t : tie.At-loop Inv-loop μ-loop = search in t .loop .inv .1 .1 .0 in
+    let k = let t : tie.At-loop Inv-loop μ-loop = search in t .loop .inv .1 .1 .0 .frame in
     let d = let t : tie.After-u-index Inv-loop μ-loop = search in t .u-index in
     let e = k .u-kept .long in
     let f = k .y-kept .long in
@@ -93,18 +92,18 @@ copy-requires c κs =
 same-length : tie.Need-same-length Inv-loop μ-loop
 same-length c =
     let loop = let t : tie.At-loop Inv-loop μ-loop = search in t .loop in
-    loop .inv .1 .1 .0 .l-kept .long
+    loop .inv .1 .1 .0 .frame .l-kept .long
 
 same-length-2 : tie.Need-same-length-2 Inv-loop μ-loop
 same-length-2 c =
     let copy = let t : tie.After-copy Inv-loop μ-loop = search in t .copy in
     let loop = let t : tie.At-loop Inv-loop μ-loop = search in t .loop in
-    copy .ensures .kept .long ∙ loop .inv .1 .1 .0 .u-kept .long
+    copy .ensures .kept .long ∙ loop .inv .1 .1 .0 .frame .u-kept .long
 
 same-length-3 : tie.Need-same-length-3 Inv-loop μ-loop
 same-length-3 c =
     let loop = let t : tie.At-loop Inv-loop μ-loop = search in t .loop in
-    loop .inv .1 .1 .0 .y-kept .long
+    loop .inv .1 .1 .0 .frame .y-kept .long
 
 returns : tie.Need-returns Inv-loop μ-loop
 unfolding forward forwardCount
@@ -119,7 +118,7 @@ returns c =
       performed-then (ieee binary64) (rw e at (loop .inv .1 .1 .0))
           (dense-copied (ieee binary64) (a .stride) (a .n) (a .columns) (a .last) (d .result) _ _ _ (omega arith) (omega arith) (omega arith) (d .ensures .0) (copy .ensures))
           (omega arith)
-          (λ S R. copy-dense-same (ieee binary64) (a .numerics .epsilon) (tinyOf binary64 (a .numerics .epsilon) (a .numerics .«update_tiny»)) (a .n) (a .columns) 0 (omega arith) (a .last) 0 (omega arith)),
+          (λ S R. copy-dense-same (ieee binary64) (a .numerics .epsilon) (a .numerics .tiny) (a .n) (a .columns) 0 (omega arith) (a .last) 0 (omega arith)),
       rw e at (loop .inv .1 .1 .1),
     )
 

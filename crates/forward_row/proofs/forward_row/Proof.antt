@@ -7,7 +7,6 @@ use lib.Ieee.{binary64}
 use lib.ListN.{length, length-set}
 use denote.Ref.{now}
 use Rattle.numbers.specs.NumberForm.{ieee}
-use Rattle.numbers.specs.Tolerances.{tinyOf}
 use Rattle.machine.specs.Forward.{forwardTransform}
 use Rattle.storage.proofs.Places.{row-before, row-fits}
 use Rattle.ranges.proofs.RowParts.{part-fits, ranges-apart}
@@ -145,11 +144,11 @@ returns c =
     let d = tested (acted r .pivot) .index .u-index in
     let s = acted r .pair .elementary in (
       performed-as (ieee binary64) (forwardTransform (ieee binary64) (a .last) (a .columns) (a .row) _)
-          (forward-acts (ieee binary64) (a .numerics .epsilon) (tinyOf binary64 (a .numerics .epsilon) (a .numerics .«update_tiny»)) (a .stride) (a .row) (a .last) (a .columns) (d .result) (now (a .l)) (now (a .u)) (now (a .y)) (d .ensures .0) (acted r .pivot .abs2 .ensures) (tested (acted r .pivot) .value .abs .ensures) (acted r .guard .if1 .taken) (s .ensures .step))
+          (forward-acts (ieee binary64) (a .numerics .epsilon) (a .numerics .tiny) (a .stride) (a .row) (a .last) (a .columns) (d .result) (now (a .l)) (now (a .u)) (now (a .y)) (d .ensures .0) (acted r .pivot .abs2 .ensures) (tested (acted r .pivot) .value .abs .ensures) (acted r .guard .if1 .taken) (s .ensures .step))
           (forward-transformed (ieee binary64) (a .stride) (a .n) (a .columns) (a .row) (a .last) (d .result) (now (a .l)) (now (a .u)) (now (a .y)) _ _ _ _
           (omega arith) (omega arith) (omega arith) (omega arith) (omega arith) (d .ensures .0) (omega arith) (omega arith) (s .ensures .cleared)
           (transform-slices .ensures .0) (transform-slices .ensures .1) (r .transform-rows .ensures)),
-      forward-acts-counted (ieee binary64) (a .numerics .epsilon) (tinyOf binary64 (a .numerics .epsilon) (a .numerics .«update_tiny»)) (a .stride) (a .row) (a .last) (a .columns) (d .result) (now (a .l)) (now (a .u)) (now (a .y)) (d .ensures .0) (acted r .pivot .abs2 .ensures) (tested (acted r .pivot) .value .abs .ensures) (acted r .guard .if1 .taken),
+      forward-acts-counted (ieee binary64) (a .numerics .epsilon) (a .numerics .tiny) (a .stride) (a .row) (a .last) (a .columns) (d .result) (now (a .l)) (now (a .u)) (now (a .y)) (d .ensures .0) (acted r .pivot .abs2 .ensures) (tested (acted r .pivot) .value .abs .ensures) (acted r .guard .if1 .taken),
     )
 
 returns-2 : tie.Need-returns-2
@@ -159,9 +158,9 @@ returns-2 c =
     let a = tested m .start .args in
     let d = tested m .index .u-index in (
       performed-as (ieee binary64) (λ S. S)
-          (forward-passes (ieee binary64) (a .numerics .epsilon) (tinyOf binary64 (a .numerics .epsilon) (a .numerics .«update_tiny»)) (a .stride) (a .row) (a .last) (a .columns) (d .result) (now (a .l)) (now (a .u)) (now (a .y)) (d .ensures .0) (m .abs2 .ensures) (tested m .value .abs .ensures) (c .if1 .left))
+          (forward-passes (ieee binary64) (a .numerics .epsilon) (a .numerics .tiny) (a .stride) (a .row) (a .last) (a .columns) (d .result) (now (a .l)) (now (a .u)) (now (a .y)) (d .ensures .0) (m .abs2 .ensures) (tested m .value .abs .ensures) (c .if1 .left))
           (performed-none (ieee binary64)),
-      forward-passes-counted (ieee binary64) (a .numerics .epsilon) (tinyOf binary64 (a .numerics .epsilon) (a .numerics .«update_tiny»)) (a .stride) (a .row) (a .last) (a .columns) (d .result) (now (a .l)) (now (a .u)) (now (a .y)) (d .ensures .0) (m .abs2 .ensures) (tested m .value .abs .ensures) (c .if1 .left),
+      forward-passes-counted (ieee binary64) (a .numerics .epsilon) (a .numerics .tiny) (a .stride) (a .row) (a .last) (a .columns) (d .result) (now (a .l)) (now (a .u)) (now (a .y)) (d .ensures .0) (m .abs2 .ensures) (tested m .value .abs .ensures) (c .if1 .left),
     )
 
 pub forward-row-spec : {M : Type 1} → statement M

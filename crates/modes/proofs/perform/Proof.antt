@@ -1,4 +1,4 @@
--- `perform`: each mode's update is the machine's step.
+-- `perform`: each mode's update is the machine's call.
 use borrow.Author.Needs.{needs}
 use Prim.Native.Nat.{_-_}
 use native.Mathlib.Omega.{arith}
@@ -72,11 +72,10 @@ returns c =
     let t : tie.Then1 = search in
     let b = push-way t .based .zero-based .ensures in
     let a = push-way t .start .args in
-    let p = push-way t .start .pre in
     let push = let e : tie.After-push = search in e .push in
     push-performed (ieee binary64) zeroBasedEpsilon zeroBasedTiny (a .mode) (a .stride) (a .n) (a .row) (a .column) (now (a .l)) (now (a .u)) (now (a .y)) (now (a .z)) (now (a .w))
-    (t .if1 .taken) (omega arith)
-    (rw (b .0, b .1) at (push .ensures .0))
+    (t .if1 .taken)
+    (rw (b .0, b .1) at (push .ensures))
 
 same-length-6 : tie.Need-same-length-6
 same-length-6 c = search needs
@@ -103,7 +102,7 @@ returns-2 c =
     let replace-column = let e : tie.After-replace-column = search in e .replace-column in
     column-performed (ieee binary64) zeroBasedEpsilon zeroBasedTiny (a .mode) (a .stride) (a .n) (a .row) (a .column) (now (a .l)) (now (a .u)) (now (a .y)) (now (a .z)) (now (a .w)) (t .if2 .taken)
     (p .1 .1 .1 .1 .1 .1 .1 .1 .0 (t .if2 .taken))
-    (rw (b .0, b .1) at (replace-column .ensures .0))
+    (rw (b .0, b .1) at (replace-column .ensures))
 
 same-length-11 : tie.Need-same-length-11
 same-length-11 c = search needs
@@ -131,7 +130,7 @@ returns-3 c =
     let replace-row = let e : tie.After-replace-row = search in e .replace-row in
     row-performed (ieee binary64) zeroBasedEpsilon zeroBasedTiny (a .mode) (a .stride) (a .n) (a .row) (a .column) (now (a .l)) (now (a .u)) (now (a .y)) (now (a .z)) (now (a .w)) (t .if3 .taken)
     (p .1 .1 .1 .1 .1 .1 .1 .0 (omega arith))
-    (rw (b .0, b .1) at (replace-row .ensures .0))
+    (rw (b .0, b .1) at (replace-row .ensures))
 
 same-length-16 : tie.Need-same-length-16
 same-length-16 c = search needs
@@ -160,8 +159,7 @@ returns-4 c =
     let p = remove-way t .start .pre in
     let remove = let e : tie.After-remove = search in e .remove in
     remove-performed (ieee binary64) zeroBasedEpsilon zeroBasedTiny (a .mode) (a .stride) (a .n) (a .row) (a .column) (now (a .l)) (now (a .u)) (now (a .y)) (now (a .z)) (now (a .w)) (omega arith)
-    (p .1 .1 .1 .1 .1 .1 .1 .0 (omega arith)) (p .1 .1 .1 .1 .1 .1 .1 .1 .1 (omega arith))
-    (rw (b .0, b .1) at (remove .ensures .0))
+    (rw (b .0, b .1) at (remove .ensures))
 
 pub perform-spec : {M : Type 1} → statement M
 perform-spec =

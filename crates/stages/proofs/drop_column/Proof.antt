@@ -5,7 +5,6 @@ use native.Mathlib.Omega.{arith}
 use lib.Ieee.{binary64}
 use denote.Ref.{now}
 use Rattle.numbers.specs.NumberForm.{ieee}
-use Rattle.numbers.specs.Tolerances.{tinyOf}
 use Rattle.stages.proofs.StageLaws.{column-dropped-outcome, last-column-dropped}
 use Rattle.stages.proofs.drop_column.Statement.{statement}
 use Rattle.stages.proofs.drop_column.Tie as tie
@@ -52,13 +51,13 @@ returns c =
     let t : tie.After-write-u-column = search in
     let a = way t .start .args in
     let p = way t .start .pre in
-    column-dropped-outcome (ieee binary64) (a .numerics .epsilon) (tinyOf binary64 (a .numerics .epsilon) (a .numerics .«update_tiny»)) (a .stride) (a .n) (a .column) (now (a .l)) (now (a .u)) (now (a .y))
+    column-dropped-outcome (ieee binary64) (a .numerics .epsilon) (a .numerics .tiny) (a .stride) (a .n) (a .column) (now (a .l)) (now (a .u)) (now (a .y))
     (now (a .w)) _ _ (omega arith) (omega arith) (way t .read .read-u-column .ensures) (t .write-u-column .ensures) (restore .ensures)
 
 returns-2 : tie.Need-returns-2
 returns-2 c =
     let a = let s : tie.Start = search in s .args in
-    last-column-dropped (ieee binary64) (a .numerics .epsilon) (tinyOf binary64 (a .numerics .epsilon) (a .numerics .«update_tiny»)) (a .stride) (a .n) (a .column) (now (a .l)) (now (a .u))
+    last-column-dropped (ieee binary64) (a .numerics .epsilon) (a .numerics .tiny) (a .stride) (a .n) (a .column) (now (a .l)) (now (a .u))
     (now (a .y)) (now (a .w)) (omega arith)
 
 pub drop-column-spec : {M : Type 1} → statement M

@@ -7,9 +7,9 @@ use lib.Ieee.{binary64}
 use lib.ListN.{length-set}
 use denote.Ref.{now}
 use Rattle.numbers.specs.NumberForm.{ieee}
-use Rattle.numbers.specs.Tolerances.{tinyOf}
 use native.Mathlib.Numerals.{add-one}
 use Rattle.machine.specs.Products.{entry}
+use Rattle.buffers.proofs.Buffers.{room-kept}
 use Rattle.stages.proofs.StageLaws.{forward-counted-le, backward-counted-le, restored-outcome}
 use Rattle.stages.proofs.restore.Statement.{statement}
 use Rattle.stages.proofs.restore.Tie as tie
@@ -55,7 +55,7 @@ slice-read-y c =
     let a = way m .start .args in
     let p = way m .start .pre in
     let e = way m .trimmed .trim .ensures in
-    let k = m .backward .ensures .0 .v-kept .long in
+    let k = m .backward .ensures .0 .frame .w-kept .long in
     omega arith
 
 mul-y-2 : tie.Need-mul-y-2
@@ -71,8 +71,8 @@ forward-requires c κs =
     let a = way m .start .args in
     let p = way m .start .pre in
     let e = way m .trimmed .trim .ensures in
-    let k = m .backward .ensures .0 in (
-      record { stride = p .0 .stride; dimension = p .0 .dimension; l-long = rw (k .l-kept .long) (p .0 .l-long); u-long = rw (k .u-kept .long) (p .0 .u-long) },
+    let k = m .backward .ensures .0 .frame in (
+      room-kept (ieee binary64) (p .0) (k .l-kept .long) (k .u-kept .long),
       (rw (length-set, k .y-kept .long) (omega arith), (omega arith, (omega arith, (omega arith, omega arith)))),
     )
 
@@ -86,8 +86,8 @@ add-result c =
     let a = way m .start .args in
     let p = way m .start .pre in
     let e = after-trim .ensures in
-    let b = backward-counted-le (ieee binary64) (a .numerics .epsilon) (tinyOf binary64 (a .numerics .epsilon) (a .numerics .«update_tiny»)) _ _ _ _ (after-backward .ensures .1) in
-    let f = forward-counted-le (ieee binary64) (a .numerics .epsilon) (tinyOf binary64 (a .numerics .epsilon) (a .numerics .«update_tiny»)) _ _ _ _ (forward .ensures .1) in
+    let b = backward-counted-le (ieee binary64) (a .numerics .epsilon) (a .numerics .tiny) _ _ _ _ (after-backward .ensures .1) in
+    let f = forward-counted-le (ieee binary64) (a .numerics .epsilon) (a .numerics .tiny) _ _ _ _ (forward .ensures .1) in
     omega arith
 
 same-length : tie.Need-same-length
@@ -100,7 +100,7 @@ same-length-3 : tie.Need-same-length-3
 same-length-3 c =
     let forward = let t : tie.After-forward = search in t .forward in
     let backward = let t : tie.After-backward = search in t .backward in
-    rw length-set at (forward .ensures .0 .y-kept .long) ∙ backward .ensures .0 .y-kept .long
+    rw length-set at (forward .ensures .0 .frame .y-kept .long) ∙ backward .ensures .0 .frame .y-kept .long
 
 same-length-4 : tie.Need-same-length-4
 same-length-4 c = search needs
@@ -114,10 +114,10 @@ returns c =
     let after-backward = m .backward in
     let a = way m .start .args in
     let p = way m .start .pre in
-    let k = after-backward .ensures .0 .y-kept .long in
+    let k = after-backward .ensures .0 .frame .y-kept .long in
     let is-s = rw add-one at (after-trim .ensures .0) in
     let performed = rw add-one at (after-backward .ensures .0) in
-    restored-outcome (ieee binary64) (a .numerics .epsilon) (tinyOf binary64 (a .numerics .epsilon) (a .numerics .«update_tiny»)) (a .stride) (a .n) (a .column) (a .last) (a .columns)
+    restored-outcome (ieee binary64) (a .numerics .epsilon) (a .numerics .tiny) (a .stride) (a .n) (a .column) (a .last) (a .columns)
     (after-trim .result) _ _ _ (now (a .w)) _ _ (omega arith) (omega (arith, p, k)) (omega arith) (omega arith) (omega arith)
     is-s performed (rw add-one at (after-backward .ensures .1)) (forward .ensures)
 

@@ -5,7 +5,6 @@ use native.Mathlib.Omega.{arith}
 use lib.Ieee.{binary64}
 use denote.Ref.{now}
 use Rattle.numbers.specs.NumberForm.{ieee}
-use Rattle.numbers.specs.Tolerances.{tinyOf}
 use Rattle.update_column.proofs.ColumnReplaced.{column-outcome, last-column-outcome}
 use Rattle.update_column.proofs.replace_column.Statement.{statement}
 use Rattle.update_column.proofs.replace_column.Tie as tie
@@ -56,7 +55,7 @@ returns c =
     let t : tie.After-write-u-column = search in
     let a = way t .start .args in
     let p = way t .start .pre in
-    column-outcome (ieee binary64) (a .numerics .epsilon) (tinyOf binary64 (a .numerics .epsilon) (a .numerics .«update_tiny»)) (a .stride) (a .n) (a .column) (now (a .l)) (now (a .u)) (now (a .y))
+    column-outcome (ieee binary64) (a .numerics .epsilon) (a .numerics .tiny) (a .stride) (a .n) (a .column) (now (a .l)) (now (a .u)) (now (a .y))
     (now (a .z)) (now (a .w)) _ _ (omega arith) (omega arith) (way t .product .l-product .ensures) (t .write-u-column .ensures) (omega (arith, g)) (restore .ensures)
 
 same-length-5 : tie.Need-same-length-5
@@ -74,7 +73,7 @@ returns-2 c =
     let t : tie.After-write-u-column = search in
     let a = way t .start .args in
     let p = way t .start .pre in
-    last-column-outcome (ieee binary64) (a .numerics .epsilon) (tinyOf binary64 (a .numerics .epsilon) (a .numerics .«update_tiny»)) (a .stride) (a .n) (a .column) (now (a .l)) (now (a .u))
+    last-column-outcome (ieee binary64) (a .numerics .epsilon) (a .numerics .tiny) (a .stride) (a .n) (a .column) (now (a .l)) (now (a .u))
     (now (a .y)) (now (a .z)) (now (a .w)) _ _ (omega arith) (omega arith) (way t .product .l-product .ensures) (t .write-u-column .ensures) (omega arith)
 
 pub replace-column-spec : {M : Type 1} → statement M

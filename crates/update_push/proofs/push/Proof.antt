@@ -7,7 +7,7 @@ use lib.Ieee.{binary64}
 use lib.ListN.{length-set}
 use denote.Ref.{now}
 use Rattle.numbers.specs.NumberForm.{ieee}
-use Rattle.numbers.specs.Tolerances.{tinyOf}
+use Rattle.buffers.proofs.Buffers.{room-kept}
 use Rattle.update_push.proofs.Border.{push-outcome}
 use Rattle.update_push.proofs.push.Statement.{statement}
 use Rattle.update_push.proofs.push.Tie as tie
@@ -62,8 +62,8 @@ forward-requires c κs =
     let t : tie.After-write-u-column = search in
     let a = way t .start .args in
     let p = way t .start .pre in (
-      record
-          { stride = p .0 .stride; dimension = p .0 .dimension; l-long = rw (way t .unit .set-unit-row .ensures .kept .long, way t .cleared .clear-l-column .ensures .kept .long) (p .0 .l-long); u-long = rw (length-set, t .write-u-column .ensures .kept .long) (p .0 .u-long) },
+      room-kept (ieee binary64) (p .0) (way t .unit .set-unit-row .ensures .kept .long ∙ way t .cleared .clear-l-column .ensures .kept .long)
+          (rw length-set (t .write-u-column .ensures .kept .long)),
       (omega arith, (omega arith, (omega arith, (omega arith, omega arith)))),
     )
 
@@ -74,7 +74,7 @@ same-length-2 : tie.Need-same-length-2
 same-length-2 c =
     let forward = let t : tie.After-forward = search in t .forward in
     let write-u-column = let t : tie.After-write-u-column = search in t .write-u-column in
-    rw length-set at (forward .ensures .0 .u-kept .long) ∙ write-u-column .ensures .kept .long
+    rw length-set at (forward .ensures .0 .frame .u-kept .long) ∙ write-u-column .ensures .kept .long
 
 same-length-3 : tie.Need-same-length-3
 same-length-3 c = search needs
@@ -92,7 +92,7 @@ returns c =
     let a = way t .start .args in
     let p = way t .start .pre in
     let k = write-u-column .ensures .kept .long in
-    push-outcome (ieee binary64) (a .numerics .epsilon) (tinyOf binary64 (a .numerics .epsilon) (a .numerics .«update_tiny»)) (a .stride) (a .n) (u-index .result) (now (a .l)) (now (a .u)) (now (a .y))
+    push-outcome (ieee binary64) (a .numerics .epsilon) (a .numerics .tiny) (a .stride) (a .n) (u-index .result) (now (a .l)) (now (a .u)) (now (a .y))
     (now (a .z)) (now (a .w)) _ _ _ _ (omega arith) (omega arith) (way t .product .l-product .ensures) (way t .cleared .clear-l-column .ensures)
     (way t .unit .set-unit-row .ensures) (write-u-column .ensures) (u-index .ensures .0) (omega arith) (forward .ensures)
 

@@ -1,11 +1,12 @@
 -- `remove`: the column, and then the row by Backward.
 use borrow.Author.Needs.{needs}
+use mathlib.Core.Path.{_∙_}
 use Prim.Native.Nat.{_-_}
 use native.Mathlib.Omega.{arith}
 use lib.Ieee.{binary64}
 use denote.Ref.{now}
 use Rattle.numbers.specs.NumberForm.{ieee}
-use Rattle.numbers.specs.Tolerances.{tinyOf}
+use Rattle.buffers.proofs.Buffers.{room-kept}
 use Rattle.stages.proofs.StageLaws.{backward-counted-le, column-dropped-counted-le}
 use Rattle.update_remove.proofs.Removed.{remove-outcome}
 use Rattle.update_remove.proofs.remove.Statement.{statement}
@@ -41,9 +42,8 @@ backward-requires c κs =
     let r : tie.After-read-l-column = search in
     let a = way r .start .args in
     let p = way r .start .pre in
-    let d = way r .dropped .drop-column .ensures .0 in (
-      record
-          { stride = p .0 .stride; dimension = p .0 .dimension; l-long = rw (copy-l-column .ensures .kept .long, d .l-kept .long) (p .0 .l-long); u-long = rw (d .u-kept .long) (p .0 .u-long) },
+    let d = way r .dropped .drop-column .ensures .0 .frame in (
+      room-kept (ieee binary64) (p .0) (copy-l-column .ensures .kept .long ∙ d .l-kept .long) (d .u-kept .long),
       (omega arith, (rw (r .read-l-column .ensures .kept .long, d .w-kept .long) (omega arith), (omega arith, (omega arith, (omega arith, omega arith))))),
     )
 
@@ -54,8 +54,8 @@ add-result c =
     let r : tie.After-read-l-column = search in
     let a = way r .start .args in
     let p = way r .start .pre in
-    let k = column-dropped-counted-le (ieee binary64) (a .numerics .epsilon) (tinyOf binary64 (a .numerics .epsilon) (a .numerics .«update_tiny»)) _ _ _ _ (way r .dropped .drop-column .ensures .1) in
-    let b = backward-counted-le (ieee binary64) (a .numerics .epsilon) (tinyOf binary64 (a .numerics .epsilon) (a .numerics .«update_tiny»)) _ _ _ _ (backward .ensures .1) in
+    let k = column-dropped-counted-le (ieee binary64) (a .numerics .epsilon) (a .numerics .tiny) _ _ _ _ (way r .dropped .drop-column .ensures .1) in
+    let b = backward-counted-le (ieee binary64) (a .numerics .epsilon) (a .numerics .tiny) _ _ _ _ (backward .ensures .1) in
     omega arith
 
 same-length : tie.Need-same-length
@@ -81,7 +81,7 @@ returns c =
     let r : tie.After-read-l-column = search in
     let a = way r .start .args in
     let p = way r .start .pre in
-    remove-outcome (ieee binary64) (a .numerics .epsilon) (tinyOf binary64 (a .numerics .epsilon) (a .numerics .«update_tiny»)) (a .stride) (a .n) (a .row) (a .column) (now (a .l)) (now (a .u))
+    remove-outcome (ieee binary64) (a .numerics .epsilon) (a .numerics .tiny) (a .stride) (a .n) (a .row) (a .column) (now (a .l)) (now (a .u))
     (now (a .y)) (now (a .z)) (now (a .w)) _ _ _ _ _ (omega arith) (omega arith) (way r .dropped .drop-column .ensures .0) (r .read-l-column .ensures) (copy-l-column .ensures)
     (way r .dropped .drop-column .ensures .1) (backward .ensures)
 

@@ -1,12 +1,12 @@
 -- `replace_row`: Backward clears the row's place in L, and Forward puts the new row in.
 use borrow.Author.Needs.{needs}
-use mathlib.Core.Path.{_∙_}
+use mathlib.Core.Path.{refl, _∙_}
 use Prim.Native.Nat.{_-_}
 use native.Mathlib.Omega.{arith}
 use lib.Ieee.{binary64}
 use denote.Ref.{now}
 use Rattle.numbers.specs.NumberForm.{ieee}
-use Rattle.numbers.specs.Tolerances.{tinyOf}
+use Rattle.buffers.proofs.Buffers.{room-kept}
 use Rattle.stages.proofs.StageLaws.{forward-counted-le, backward-counted-le}
 use Rattle.update_row.proofs.RowReplaced.{replace-row-outcome}
 use Rattle.update_row.proofs.replace_row.Statement.{statement}
@@ -42,8 +42,7 @@ backward-requires c κs =
     let t : tie.After-trim = search in
     let p = way t .start .pre in
     let e = t .trim .ensures in (
-      record
-          { stride = p .0 .stride; dimension = p .0 .dimension; l-long = rw (way t .cleared .clear-l-column .ensures .kept .long) (p .0 .l-long); u-long = p .0 .u-long },
+      room-kept (ieee binary64) (p .0) (way t .cleared .clear-l-column .ensures .kept .long) refl,
       (omega arith, (rw (way t .read .read-l-column .ensures .kept .long) (omega arith), (omega arith, (omega arith, (omega arith, omega arith))))),
     )
 
@@ -54,7 +53,7 @@ set-unit-row-requires c κs =
     let t = trimmed b in
     let p = way t .start .pre in
     let e = t .trim .ensures in
-    let k = b .backward .ensures .0 .l-kept .long in
+    let k = b .backward .ensures .0 .frame .l-kept .long in
     let g = way t .cleared .clear-l-column .ensures .kept .long in
     (omega arith, (omega arith, (omega arith, (omega arith, omega arith))))
 
@@ -66,23 +65,22 @@ forward-requires c κs =
     let t = trimmed b in
     let p = way t .start .pre in
     let e = t .trim .ensures in
-    let k = b .backward .ensures .0 in (
-      record
-          { stride = p .0 .stride; dimension = p .0 .dimension; l-long = rw (u .set-unit-row .ensures .kept .long, k .l-kept .long, way t .cleared .clear-l-column .ensures .kept .long) (p .0 .l-long); u-long = rw (k .u-kept .long) (p .0 .u-long) },
+    let k = b .backward .ensures .0 .frame in (
+      room-kept (ieee binary64) (p .0) (u .set-unit-row .ensures .kept .long ∙ k .l-kept .long ∙ way t .cleared .clear-l-column .ensures .kept .long) (k .u-kept .long),
       (omega arith, (omega arith, (omega arith, (omega arith, omega arith)))),
     )
 
 add-result : tie.Need-add-result
 unfolding way trimmed
 add-result c =
-    let n : tie.After-forward = search in
     let b : tie.After-backward = search in
+    let n : tie.After-forward = search in
     let t = trimmed b in
     let a = way t .start .args in
     let p = way t .start .pre in
     let e = t .trim .ensures in
-    let k = backward-counted-le (ieee binary64) (a .numerics .epsilon) (tinyOf binary64 (a .numerics .epsilon) (a .numerics .«update_tiny»)) _ _ _ _ (b .backward .ensures .1) in
-    let f = forward-counted-le (ieee binary64) (a .numerics .epsilon) (tinyOf binary64 (a .numerics .epsilon) (a .numerics .«update_tiny»)) _ _ _ _ (n .forward .ensures .1) in
+    let k = backward-counted-le (ieee binary64) (a .numerics .epsilon) (a .numerics .tiny) _ _ _ _ (b .backward .ensures .1) in
+    let f = forward-counted-le (ieee binary64) (a .numerics .epsilon) (a .numerics .tiny) _ _ _ _ (n .forward .ensures .1) in
     omega arith
 
 same-length : tie.Need-same-length
@@ -91,7 +89,7 @@ same-length c =
     let f : tie.After-forward = search in
     let u : tie.After-set-unit-row = search in
     let b : tie.After-backward = search in
-    f .forward .ensures .0 .l-kept .long ∙ u .set-unit-row .ensures .kept .long ∙ b .backward .ensures .0 .l-kept .long ∙ way (trimmed b) .cleared .clear-l-column .ensures .kept .long
+    f .forward .ensures .0 .frame .l-kept .long ∙ u .set-unit-row .ensures .kept .long ∙ b .backward .ensures .0 .frame .l-kept .long ∙ way (trimmed b) .cleared .clear-l-column .ensures .kept .long
 
 same-length-2 : tie.Need-same-length-2
 same-length-2 c = search needs
@@ -106,7 +104,7 @@ same-length-5 : tie.Need-same-length-5
 unfolding way trimmed
 same-length-5 c =
     let b : tie.After-backward = search in
-    b .backward .ensures .0 .v-kept .long ∙ way (trimmed b) .read .read-l-column .ensures .kept .long
+    b .backward .ensures .0 .frame .w-kept .long ∙ way (trimmed b) .read .read-l-column .ensures .kept .long
 
 returns : tie.Need-returns
 unfolding way trimmed
@@ -118,7 +116,7 @@ returns c =
     let w = way t in
     let a = w .start .args in
     let p = w .start .pre in
-    replace-row-outcome (ieee binary64) (a .numerics .epsilon) (tinyOf binary64 (a .numerics .epsilon) (a .numerics .«update_tiny»)) (a .stride) (a .n) (a .row) (t .trim .result) (now (a .l))
+    replace-row-outcome (ieee binary64) (a .numerics .epsilon) (a .numerics .tiny) (a .stride) (a .n) (a .row) (t .trim .result) (now (a .l))
     (now (a .u)) (now (a .y)) (now (a .z)) (now (a .w)) _ _ (omega (arith, p)) (omega (arith, p))
     (w .read .read-l-column .ensures) (w .cleared .clear-l-column .ensures) (t .trim .ensures .0) (b .backward .ensures .0) (u .set-unit-row .ensures) (f .forward .ensures .0)
     (b .backward .ensures .1) (f .forward .ensures .1)

@@ -1,7 +1,7 @@
 -- `elementary`: each way through its tests is the law `along` of Branches, and the bound follows from the step.
 use borrow.Author.Needs.{needs}
 use mathlib.Core.Bool.{true, false}
-use lib.Ieee.{Float, binary64, mul}
+use lib.Ieee.{Float, binary64}
 use Rattle.numbers.specs.NumberForm.{ieee}
 use Rattle.numbers.proofs.Bound.{stepped}
 use Rattle.numbers.proofs.Branches.{along}
@@ -16,13 +16,13 @@ abs-requires-2 c κs = search needs
 
 -- the place where both absolute values are known: the values there, and T
 abbrev x : tie.After-abs2 → Float
-x c = c .before .before .before .args .x .now
+x c = c .before .before .args .x .now
 
 abbrev y : tie.After-abs2 → Float
-y c = c .before .before .before .args .y .now
+y c = c .before .before .args .y .now
 
 abbrev tiny : tie.After-abs2 → Float
-tiny c = mul binary64 (c .before .before .before .args .numerics .epsilon) (c .before .before .before .args .numerics .«update_tiny»)
+tiny c = c .before .before .args .tiny
 
 returns : tie.Need-returns
 returns c =
