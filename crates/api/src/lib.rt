@@ -1,40 +1,29 @@
 // The managed interface: a dimension, a capacity and a counter by value, and storage lent to each call.
 ghost use mathlib.Core.Path.{_≡_};
-ghost use mathlib.Core.Bool.{cond};
-ghost use mathlib.Core.List.{[]};
-ghost use mathlib.Core.Option.{none, some};
-ghost use Prim.Native.Nat.{_+_};
-ghost use lib.Dec.{eqb};
 ghost use lib.ListN.{length};
 ghost use lib.Ieee.{binary64};
 ghost use Rattle.numbers.specs.NumberForm.{ieee};
 ghost use Rattle.machine.specs.Solves.{diagonals};
 ghost use Rattle.machine.specs.Calls as calls;
-ghost use Rattle.machine.specs.Counter.{capped};
 ghost use Rattle.storage.specs.Views.{viewU};
 ghost use Rattle.storage.specs.Lengths as lengths;
 ghost use Rattle.managed.specs.Instance.{instance, lentToSolve};
 ghost use Rattle.managed.specs.Refusals.{storageTests};
-ghost use Rattle.refusals.specs.Refusal.{refusalOf};
-ghost use Rattle.api.specs.Answers.{adoptionOf, adoptedUnder, readinessOf, readyUnder, answerOf, movedRowOf, movedColumnOf, removeAnswerOf};
-ghost use Rattle.api.specs.Demands.{ManagedOutcome};
+ghost use Rattle.managed.specs.StorageAnswers.{adoptedUnder, readyUnder};
+ghost use Rattle.managed.specs.Demands.{ManagedOutcome};
+ghost use Rattle.refusals.specs.Refusal as tests;
+ghost use Rattle.managed_updates.specs.Attempted as updates;
+ghost use Rattle.readiness.specs.Readiness.{readinessOf};
+ghost use Rattle.api.specs.Answers.{stateOf, answerOf, movedRowOf, movedColumnOf, updateReport, removeReport, solveReport, adoptionOf};
 use counter::added;
-use diagonals::Diagonal;
-use diagonals::test_diagonal;
-use numerics::tolerance::managed;
-use refusals::LentLengths;
+use managed_updates::Made;
+use managed_updates::Update;
+use readiness::Readiness;
 use refusals::Refusal;
 use refusals::Test;
-use refusals::test_push;
-use refusals::test_remove;
-use refusals::test_replacement;
-use refusals::test_solve;
 use refusals::test_storage;
-use solves::solve;
-use solves::solve_transposed;
 use storage::RequiredLengths;
 use storage::storage_lengths;
-use update_column::replace_column;
 
 // The dimension and the capacity of factors whose storage the caller keeps, and the counter of the pair steps that their updates made.
 pub struct LuMod {
@@ -99,32 +88,61 @@ pub struct RemoveResult {
     pub steps: usize,
 }
 
-// What a refused update hands back.
-fn refused(state: LuMod, refusal: Refusal) -> UpdateResult
-    ensures { λ r. ⌜ (r .state ≡ state) × ((answerOf (r .answer) ≡ refusalOf refusal) × (r .steps ≡ 0)) ⌝ }
+// What adopting storage answers.
+pub enum Adoption {
+    Adopted(LuMod),
+    Refused(Refusal),
+}
+
+// What a solve hands back.
+fn call_result(state: LuMod, test: Test) -> CallResult
+    ensures { λ r. ⌜ (r .state ≡ state) × (answerOf (r .answer) ≡ tests.answerOf test) ⌝ }
 {
-    UpdateResult {
-        state,
-        answer: Answer::Refused(refusal),
-        steps: 0,
+    match test {
+        Test::Passed => CallResult {
+            state,
+            answer: Answer::Done,
+        },
+        Test::Refused(refusal) => CallResult {
+            state,
+            answer: Answer::Refused(refusal),
+        },
     }
 }
 
-// The state after an update that made so many pair steps.
-fn updated(n: usize, capacity: usize, counter: usize, steps: usize) -> LuMod
-    ensures { λ r. ⌜ (r .n ≡ n) × ((r .capacity ≡ capacity) × (r .counter ≡ capped (counter + steps))) ⌝ }
+// The state after an update that was carried out.
+fn updated(state: LuMod, made: Made) -> LuMod
+    ensures { λ r. ⌜ stateOf r ≡ updates.stateMade made (state .capacity) (state .counter) ⌝ }
 {
-    let counter = added(counter, steps);
+    let counter = added(state.counter, made.steps);
     LuMod {
-        n,
-        capacity,
+        n: made.dimension,
+        capacity: state.capacity,
         counter,
+    }
+}
+
+// What an update hands back, remove apart.
+fn update_result(state: LuMod, update: Update) -> UpdateResult
+    ensures { λ r. ⌜ (stateOf (r .state) ≡ updates.stateAfter update (state .n) (state .capacity) (state .counter)) × (updateReport r ≡ updates.reportOf update) ⌝ }
+{
+    match update {
+        Update::Made(made) => UpdateResult {
+            state: updated(state, made),
+            answer: Answer::Done,
+            steps: made.steps,
+        },
+        Update::Refused(refusal) => UpdateResult {
+            state,
+            answer: Answer::Refused(refusal),
+            steps: 0,
+        },
     }
 }
 
 // The last row moves, where it is not itself the one that is removed.
 fn moved_row(row: usize, last: usize) -> MovedRow
-    ensures { λ r. ⌜ movedRowOf r ≡ cond (eqb row last) none (some last) ⌝ }
+    ensures { λ r. ⌜ movedRowOf r ≡ updates.movedFrom last row ⌝ }
 {
     if row == last {
         return MovedRow::Nothing;
@@ -134,7 +152,7 @@ fn moved_row(row: usize, last: usize) -> MovedRow
 
 // The same of columns.
 fn moved_column(column: usize, last: usize) -> MovedColumn
-    ensures { λ r. ⌜ movedColumnOf r ≡ cond (eqb column last) none (some last) ⌝ }
+    ensures { λ r. ⌜ movedColumnOf r ≡ updates.movedFrom last column ⌝ }
 {
     if column == last {
         return MovedColumn::Nothing;
@@ -144,7 +162,7 @@ fn moved_column(column: usize, last: usize) -> MovedColumn
 
 // What moved when a row and a column were removed.
 fn what_moved(row: usize, column: usize, last: usize) -> Removal
-    ensures { λ r. ⌜ (movedRowOf (r .«moved_row») ≡ cond (eqb row last) none (some last)) × (movedColumnOf (r .«moved_column») ≡ cond (eqb column last) none (some last)) ⌝ }
+    ensures { λ r. ⌜ (movedRowOf (r .«moved_row») ≡ updates.movedFrom last row) × (movedColumnOf (r .«moved_column») ≡ updates.movedFrom last column) ⌝ }
 {
     let moved_row = moved_row(row, last);
     let moved_column = moved_column(column, last);
@@ -154,17 +172,22 @@ fn what_moved(row: usize, column: usize, last: usize) -> Removal
     }
 }
 
-// What adopting storage answers.
-pub enum Adoption {
-    Adopted(LuMod),
-    Refused(Refusal),
-}
-
-// Whether a solve would divide by sound diagonals alone.
-pub enum Readiness {
-    Ready,
-    NotReady,
-    Refused(Refusal),
+// What remove hands back.
+fn remove_result(state: LuMod, update: Update, row: usize, column: usize) -> RemoveResult
+    ensures { λ r. ⌜ (stateOf (r .state) ≡ updates.stateAfter update (state .n) (state .capacity) (state .counter)) × (removeReport r ≡ updates.removeReportOf row column update) ⌝ }
+{
+    match update {
+        Update::Made(made) => RemoveResult {
+            state: updated(state, made),
+            answer: RemoveAnswer::Removed(what_moved(row, column, made.dimension)),
+            steps: made.steps,
+        },
+        Update::Refused(refusal) => RemoveResult {
+            state,
+            answer: RemoveAnswer::Refused(refusal),
+            steps: 0,
+        },
+    }
 }
 
 // Every call tests the storage that it is lent (InvalidDimension, SizeOverflow, InsufficientStorage), an update then its workspaces, which have one length
@@ -211,20 +234,10 @@ impl LuMod {
 
     // Whether no active diagonal of U is zero, infinite or NaN. Nothing is written.
     pub fn ready(self, l: &[f64], u: &[f64]) -> Readiness
-        ensures { λ r. ⌜ readinessOf r ≡ readyUnder (storageTests (self .n) (self .capacity) (length (now (l .entry))) (length (now (u .entry)))) (diagonals (ieee binary64) (viewU (ieee binary64) (self .capacity) (now (u .entry))) (self .n)) ⌝ }
+        ensures { λ r. ⌜ readinessOf r ≡ readyUnder (storageTests (self .n) (self .capacity) (length (now (l .entry))) (length (now (u .entry))))
+            (diagonals (ieee binary64) (viewU (ieee binary64) (self .capacity) (now (u .entry))) (self .n)) ⌝ }
     {
-        let n = self.n;
-        let capacity = self.capacity;
-        let test = test_storage(n, capacity, l.len(), u.len());
-        if let Test::Refused(refusal) = test {
-            return Readiness::Refused(refusal);
-        }
-        let found = test_diagonal(n, capacity, u);
-        match found {
-            Diagonal::Sound => Readiness::Ready,
-            Diagonal::Zero(_) => Readiness::NotReady,
-            Diagonal::NonFinite(_) => Readiness::NotReady,
-        }
+        readiness::ready(self.n, self.capacity, l, u)
     }
 
     // Appends a row and a column to the matrix; `diagonal` is the entry where they meet. The dimension grows by one. CapacityExceeded where it is the
@@ -240,28 +253,23 @@ impl LuMod {
         column: &[f64],
         diagonal: f64,
     ) -> UpdateResult
-        ensures { λ r. ⌜ ManagedOutcome (calls.push (now (row .entry)) (now (column .entry)) diagonal) (instance (self .n) (self .capacity) (self .counter) (now (l .entry)) (now (u .entry)) (now (y .entry)) (now (z .entry)) (now (w .entry)))
-            (instance (r .state .n) (r .state .capacity) (r .state .counter) (now (l .exit)) (now (u .exit)) (now (y .exit)) (now (z .exit)) (now (w .exit))) (answerOf (r .answer)) [] (r .steps) ⌝ }
+        ensures { λ r. ⌜ ManagedOutcome binary64 (calls.push (now (row .entry)) (now (column .entry)) diagonal)
+            (instance (stateOf self) (now (l .entry)) (now (u .entry)) (now (y .entry)) (now (z .entry)) (now (w .entry)))
+            (instance (stateOf (r .state)) (now (l .exit)) (now (u .exit)) (now (y .exit)) (now (z .exit)) (now (w .exit))) (updateReport r) ⌝ }
     {
-        let n = self.n;
-        let capacity = self.capacity;
-        let lent = LentLengths {
-            l: l.len(),
-            u: u.len(),
-            y: y.len(),
-            z: z.len(),
-            w: w.len(),
-        };
-        let test = test_push(n, capacity, lent, row.len(), column.len());
-        if let Test::Refused(refusal) = test {
-            return refused(self, refusal);
-        }
-        let steps = copied_data::push(n, capacity, l, u, y, w, row, column, diagonal);
-        UpdateResult {
-            state: updated(n + 1, capacity, self.counter, steps),
-            answer: Answer::Done,
-            steps,
-        }
+        let update = managed_updates::push(
+            self.n,
+            self.capacity,
+            l,
+            u,
+            y,
+            z,
+            w,
+            row,
+            column,
+            diagonal,
+        );
+        update_result(self, update)
     }
 
     // Replaces a row of the matrix. RowOutOfBounds where there is no such row, LengthMismatch where values has another length than the dimension,
@@ -276,29 +284,22 @@ impl LuMod {
         row: RowIndex,
         values: &[f64],
     ) -> UpdateResult
-        ensures { λ r. ⌜ ManagedOutcome (calls.replaceRow (row .0) (now (values .entry))) (instance (self .n) (self .capacity) (self .counter) (now (l .entry)) (now (u .entry)) (now (y .entry)) (now (z .entry)) (now (w .entry)))
-            (instance (r .state .n) (r .state .capacity) (r .state .counter) (now (l .exit)) (now (u .exit)) (now (y .exit)) (now (z .exit)) (now (w .exit))) (answerOf (r .answer)) [] (r .steps) ⌝ }
+        ensures { λ r. ⌜ ManagedOutcome binary64 (calls.replaceRow (row .0) (now (values .entry)))
+            (instance (stateOf self) (now (l .entry)) (now (u .entry)) (now (y .entry)) (now (z .entry)) (now (w .entry)))
+            (instance (stateOf (r .state)) (now (l .exit)) (now (u .exit)) (now (y .exit)) (now (z .exit)) (now (w .exit))) (updateReport r) ⌝ }
     {
-        let n = self.n;
-        let capacity = self.capacity;
-        let lent = LentLengths {
-            l: l.len(),
-            u: u.len(),
-            y: y.len(),
-            z: z.len(),
-            w: w.len(),
-        };
-        let outside = Refusal::RowOutOfBounds;
-        let test = test_replacement(n, capacity, lent, row.0, outside, values.len());
-        if let Test::Refused(refusal) = test {
-            return refused(self, refusal);
-        }
-        let steps = copied_data::replace_row(row.0, n, capacity, l, u, y, z, w, values);
-        UpdateResult {
-            state: updated(n, capacity, self.counter, steps),
-            answer: Answer::Done,
-            steps,
-        }
+        let update = managed_updates::replace_row(
+            self.n,
+            self.capacity,
+            l,
+            u,
+            y,
+            z,
+            w,
+            row.0,
+            values,
+        );
+        update_result(self, update)
     }
 
     // Replaces a column of the matrix. ColumnOutOfBounds where there is no such column, LengthMismatch where values has another length than the dimension,
@@ -313,29 +314,22 @@ impl LuMod {
         column: ColumnIndex,
         values: &[f64],
     ) -> UpdateResult
-        ensures { λ r. ⌜ ManagedOutcome (calls.replaceColumn (column .0) (now (values .entry))) (instance (self .n) (self .capacity) (self .counter) (now (l .entry)) (now (u .entry)) (now (y .entry)) (now (z .entry)) (now (w .entry)))
-            (instance (r .state .n) (r .state .capacity) (r .state .counter) (now (l .exit)) (now (u .exit)) (now (y .exit)) (now (z .exit)) (now (w .exit))) (answerOf (r .answer)) [] (r .steps) ⌝ }
+        ensures { λ r. ⌜ ManagedOutcome binary64 (calls.replaceColumn (column .0) (now (values .entry)))
+            (instance (stateOf self) (now (l .entry)) (now (u .entry)) (now (y .entry)) (now (z .entry)) (now (w .entry)))
+            (instance (stateOf (r .state)) (now (l .exit)) (now (u .exit)) (now (y .exit)) (now (z .exit)) (now (w .exit))) (updateReport r) ⌝ }
     {
-        let n = self.n;
-        let capacity = self.capacity;
-        let lent = LentLengths {
-            l: l.len(),
-            u: u.len(),
-            y: y.len(),
-            z: z.len(),
-            w: w.len(),
-        };
-        let outside = Refusal::ColumnOutOfBounds;
-        let test = test_replacement(n, capacity, lent, column.0, outside, values.len());
-        if let Test::Refused(refusal) = test {
-            return refused(self, refusal);
-        }
-        let steps = replace_column(column.0, n, capacity, l, u, y, values, w, managed());
-        UpdateResult {
-            state: updated(n, capacity, self.counter, steps),
-            answer: Answer::Done,
-            steps,
-        }
+        let update = managed_updates::replace_column(
+            self.n,
+            self.capacity,
+            l,
+            u,
+            y,
+            z,
+            w,
+            column.0,
+            values,
+        );
+        update_result(self, update)
     }
 
     // Removes a row and a column of the matrix; the last of each moves to the place of the removed one, and is named where it is another. The dimension falls
@@ -351,75 +345,30 @@ impl LuMod {
         row: RowIndex,
         column: ColumnIndex,
     ) -> RemoveResult
-        ensures { λ r. ⌜ ManagedOutcome (calls.remove (row .0) (column .0)) (instance (self .n) (self .capacity) (self .counter) (now (l .entry)) (now (u .entry)) (now (y .entry)) (now (z .entry)) (now (w .entry)))
-            (instance (r .state .n) (r .state .capacity) (r .state .counter) (now (l .exit)) (now (u .exit)) (now (y .exit)) (now (z .exit)) (now (w .exit))) (removeAnswerOf (r .answer)) [] (r .steps) ⌝ }
+        ensures { λ r. ⌜ ManagedOutcome binary64 (calls.remove (row .0) (column .0))
+            (instance (stateOf self) (now (l .entry)) (now (u .entry)) (now (y .entry)) (now (z .entry)) (now (w .entry)))
+            (instance (stateOf (r .state)) (now (l .exit)) (now (u .exit)) (now (y .exit)) (now (z .exit)) (now (w .exit))) (removeReport r) ⌝ }
     {
-        let n = self.n;
-        let capacity = self.capacity;
-        let lent = LentLengths {
-            l: l.len(),
-            u: u.len(),
-            y: y.len(),
-            z: z.len(),
-            w: w.len(),
-        };
-        let test = test_remove(n, capacity, lent, row.0, column.0);
-        if let Test::Refused(refusal) = test {
-            return RemoveResult {
-                state: self,
-                answer: RemoveAnswer::Refused(refusal),
-                steps: 0,
-            };
-        }
-        let steps = update_remove::remove(row.0, column.0, n, capacity, l, u, y, z, w, managed());
-        let last = n - 1;
-        RemoveResult {
-            state: updated(last, capacity, self.counter, steps),
-            answer: RemoveAnswer::Removed(what_moved(row.0, column.0, last)),
-            steps,
-        }
+        let update = managed_updates::remove(self.n, self.capacity, l, u, y, z, w, row.0, column.0);
+        remove_result(self, update, row.0, column.0)
     }
 
     // Solves with the matrix in place: rhs becomes the solution. The end of L is work, below the dimension. LengthMismatch where rhs has another length than
     // the dimension; then the first diagonal of U that is zero (Singular), infinite or NaN (NonFiniteDiagonal), by its index.
     pub fn solve_in_place(self, l: &mut [f64], u: &[f64], rhs: &mut [f64]) -> CallResult
-        ensures { λ r. ⌜ ManagedOutcome (calls.solve (now (rhs .entry))) (lentToSolve (self .n) (self .capacity) (self .counter) (now (l .entry)) (now (u .entry)))
-            (lentToSolve (r .state .n) (r .state .capacity) (r .state .counter) (now (l .exit)) (now (u .entry))) (answerOf (r .answer)) (now (rhs .exit)) 0 ⌝ }
+        ensures { λ r. ⌜ ManagedOutcome binary64 (calls.solve (now (rhs .entry))) (lentToSolve (stateOf self) (now (l .entry)) (now (u .entry)))
+            (lentToSolve (stateOf (r .state)) (now (l .exit)) (now (u .entry))) (solveReport r (now (rhs .exit))) ⌝ }
     {
-        let n = self.n;
-        let capacity = self.capacity;
-        let test = test_solve(n, capacity, l.len(), u, rhs.len());
-        if let Test::Refused(refusal) = test {
-            return CallResult {
-                state: self,
-                answer: Answer::Refused(refusal),
-            };
-        }
-        solve(n, capacity, l, u, rhs);
-        CallResult {
-            state: self,
-            answer: Answer::Done,
-        }
+        let test = managed_solves::solve(self.n, self.capacity, l, u, rhs);
+        call_result(self, test)
     }
 
     // The same with the matrix transposed.
     pub fn solve_transpose_in_place(self, l: &mut [f64], u: &[f64], rhs: &mut [f64]) -> CallResult
-        ensures { λ r. ⌜ ManagedOutcome (calls.solveTransposed (now (rhs .entry))) (lentToSolve (self .n) (self .capacity) (self .counter) (now (l .entry)) (now (u .entry)))
-            (lentToSolve (r .state .n) (r .state .capacity) (r .state .counter) (now (l .exit)) (now (u .entry))) (answerOf (r .answer)) (now (rhs .exit)) 0 ⌝ }
+        ensures { λ r. ⌜ ManagedOutcome binary64 (calls.solveTransposed (now (rhs .entry))) (lentToSolve (stateOf self) (now (l .entry)) (now (u .entry)))
+            (lentToSolve (stateOf (r .state)) (now (l .exit)) (now (u .entry))) (solveReport r (now (rhs .exit))) ⌝ }
     {
-        let n = self.n;
-        let capacity = self.capacity;
-        let test = test_solve(n, capacity, l.len(), u, rhs.len());
-        if let Test::Refused(refusal) = test {
-            return CallResult {
-                state: self,
-                answer: Answer::Refused(refusal),
-            };
-        }
-        solve_transposed(n, capacity, l, u, rhs);
-        CallResult {
-            state: self,
-            answer: Answer::Done,
-        }
+        let test = managed_solves::solve_transpose(self.n, self.capacity, l, u, rhs);
+        call_result(self, test)
     }
 }

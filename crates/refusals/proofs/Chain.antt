@@ -1,11 +1,11 @@
 -- A test's answer as the first part of a chain of refusals: refused, it is the chain's, and passed, the rest decides.
 use mathlib.Core.Path.{_≡_, sym, ap, _∙_}
-use mathlib.Core.Option.{Option, none}
+use mathlib.Core.Option.{Option, none, some}
 use Rattle.machine.specs.Calls.{Answer, _orElse_}
 use Rattle.refusals.specs.declared.Refusal.{Refusal}
 use Rattle.refusals.specs.declared.Test.{Test}
 use Rattle.refusals.specs.declared.Test.the-variants.{Passed, Refused}
-use Rattle.refusals.specs.Refusal.{testOf}
+use Rattle.refusals.specs.Refusal.{refusalOf, testOf}
 
 module _ {t : Test} {a : Option Answer} (is-a : testOf t ≡ a) where
   pub refused-first : (r : Refusal) (b : Option Answer) → t ≡ Refused r → testOf t ≡ (a orElse b)
@@ -13,3 +13,6 @@ module _ {t : Test} {a : Option Answer} (is-a : testOf t ≡ a) where
 
   pub passed-none : t ≡ Passed → a ≡ none
   passed-none e = sym is-a ∙ ap testOf e
+
+  pub refused-some : (r : Refusal) → t ≡ Refused r → a ≡ some (refusalOf r)
+  refused-some r e = sym is-a ∙ ap testOf e

@@ -1,6 +1,6 @@
 -- What the tests of the managed calls answer, in document 01's numbers.
 use mathlib.Core.Option.{Option, none, some}
-use Rattle.machine.specs.Calls.{Answer, refused, refusedAt}
+use Rattle.machine.specs.Calls.{Answer, done, refused, refusedAt}
 use Rattle.refusals.specs.declared.Refusal.{Refusal}
 use Rattle.refusals.specs.declared.Refusal.the-variants as refusal
 use Rattle.refusals.specs.declared.Test.{Test}
@@ -19,6 +19,12 @@ refusalOf refusal.InsufficientWorkspace = refused 8
 refusalOf (refusal.Singular i) = refusedAt 9 i
 refusalOf (refusal.NonFiniteDiagonal i) = refusedAt 10 i
 
+-- what a test says: no refusal, or which
 abbrev pub testOf : Test → Option Answer
 testOf test.Passed = none
 testOf (test.Refused r) = some (refusalOf r)
+
+-- what a call answers whose test that is: 0, or the refusal's number
+abbrev pub answerOf : Test → Answer
+answerOf test.Passed = done
+answerOf (test.Refused r) = refusalOf r

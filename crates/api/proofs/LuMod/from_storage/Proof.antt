@@ -6,7 +6,7 @@ use Prim.Native.Nat.{ℕ}
 use Rattle.machine.specs.Calls.{Answer}
 use Rattle.refusals.specs.Refusal.{testOf}
 use Rattle.refusals.specs.declared.Test.{Test}
-use Rattle.api.specs.Answers.{adoptedUnder}
+use Rattle.managed.specs.StorageAnswers.{adoptedUnder}
 use Rattle.api.proofs.LuMod.from_storage.Statement.{statement}
 use Rattle.api.proofs.LuMod.from_storage.Tie as tie
 

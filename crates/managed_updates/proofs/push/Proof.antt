@@ -1,0 +1,94 @@
+-- `push`: refused, or carried out.
+use mathlib.Core.Path.{refl, _∙_}
+use denote.Ref.{now}
+use lib.Ieee.{binary64}
+use native.Mathlib.Omega.{arith}
+use borrow.Author.Needs.{needs}
+use Rattle.numbers.specs.NumberForm.{NumberForm, ieee}
+use Rattle.numbers.specs.Tolerances.{managedEpsilon, managedTiny}
+use Rattle.machine.specs.Calls as calls
+use Rattle.machine.specs.Machine.{accepted}
+use Rattle.managed.specs.Instance.{stateValue, instance}
+use Rattle.managed.proofs.Outcomes.{outcome-refused, outcome-updated}
+use Rattle.managed.proofs.Tested.{push-tested, push-passed}
+use Rattle.refusals.proofs.Chain.{passed-none, refused-some}
+use Rattle.managed_updates.proofs.Updates.{room, lent-otherwise}
+use Rattle.managed_updates.proofs.push.Statement.{statement}
+use Rattle.managed_updates.proofs.push.Tie as tie
+
+abbrev N : NumberForm
+N = ieee binary64
+
+test-push-requires : tie.Need-test-push-requires
+test-push-requires c κs = search needs
+
+enum-known-test : tie.Need-enum-known-test
+enum-known-test c = search needs
+
+returns : tie.Need-returns
+returns c counter =
+    let t : tie.After-test-push = search in
+    let start : tie.Start = search in
+    let a = start .args in
+    let s = instance (stateValue (a .n) (a .capacity) counter) (now (a .l)) (now (a .u)) (now (a .y)) (now (a .z)) (now (a .w)) in
+    outcome-refused N (managedEpsilon binary64) (managedTiny binary64) (calls.push (now (a .row)) (now (a .column)) (a .diagonal)) s
+    (push-tested N s (now (a .row)) (now (a .column)) (a .diagonal) ∙ refused-some (t .test-push .ensures) _ (c .before .test .given .1))
+
+enum-told : tie.Need-enum-told
+enum-told c = search needs
+
+push-requires : tie.Need-push-requires
+push-requires c κs =
+    let e : tie.After-enum-told = search in
+    let t : tie.After-test-push = search in
+    let r = push-passed _ _ _ _ _ (passed-none (t .test-push .ensures) (e .enum-told .given .1)) in
+    (room N _ (omega (arith, r .1)) (r .0 .storage), (omega (arith, r .0 .y), (omega (arith, r .0 .w), (omega (arith, r .2), omega (arith, r .3)))))
+
+add-t18 : tie.Need-add-t18
+add-t18 c =
+    let e : tie.After-enum-told = search in
+    let t : tie.After-test-push = search in
+    let r = push-passed _ _ _ _ _ (passed-none (t .test-push .ensures) (e .enum-told .given .1)) in
+    omega (arith, r .1, r .0 .storage .capacity)
+
+same-length : tie.Need-same-length
+same-length c = search needs
+
+same-length-2 : tie.Need-same-length-2
+same-length-2 c = search needs
+
+same-length-3 : tie.Need-same-length-3
+same-length-3 c = search needs
+
+same-length-4 : tie.Need-same-length-4
+same-length-4 c = search needs
+
+returns-2 : tie.Need-returns-2
+unfolding accepted
+returns-2 c counter =
+    let p : tie.After-push = search in
+    let e : tie.After-enum-told = search in
+    let t : tie.After-test-push = search in
+    let start : tie.Start = search in
+    let a = start .args in
+    let v = stateValue (a .n) (a .capacity) counter in
+    let s = instance v (now (a .l)) (now (a .u)) (now (a .y)) (now (a .z)) (now (a .w)) in
+    outcome-updated N (managedEpsilon binary64) (managedTiny binary64) (calls.push (now (a .row)) (now (a .column)) (a .diagonal)) v (now (a .l)) (now (a .u)) (now (a .y)) (now (a .z)) (now (a .w)) _ _ refl
+    (push-tested N s (now (a .row)) (now (a .column)) (a .diagonal) ∙ passed-none (t .test-push .ensures) (e .enum-told .given .1))
+    (lent-otherwise N (managedEpsilon binary64) (managedTiny binary64) (p .push .ensures)) refl refl (omega arith) (omega arith) refl
+
+pub push-spec : {M : Type 1} → statement M
+push-spec =
+    tie.close
+    (tie.spec
+    test-push-requires
+    enum-known-test
+    returns
+    enum-told
+    push-requires
+    add-t18
+    same-length
+    same-length-2
+    same-length-3
+    same-length-4
+    returns-2)
