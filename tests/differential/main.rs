@@ -7,6 +7,7 @@
 //! reached, 2 anything else.
 
 mod aim;
+mod bench_table;
 mod buffers;
 mod calls;
 mod data;
