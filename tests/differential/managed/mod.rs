@@ -16,8 +16,8 @@ mod paths;
 mod plain;
 mod published;
 mod refusals;
+mod refused;
 mod sets;
-mod spoil;
 
 use crate::calls::{Calls, End};
 use crate::plant::Planter;
