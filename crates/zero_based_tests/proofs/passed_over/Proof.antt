@@ -8,9 +8,9 @@ use lib.Dec.{ltb}
 use borrow.Author.Tests.{lt-ltb, le-ltb, eq-eqb, ne-eqb}
 use mir.Facts.{toZ-ofZ}
 use lib.IntN.{ℤ}
-use Rattle.zero_based.specs.Refusals.{indexOutside, passedOver}
-use Rattle.zero_based.proofs.passed_over.Statement.{statement}
-use Rattle.zero_based.proofs.passed_over.Tie as tie
+use Rattle.zero_based_tests.specs.Refusals.{indexOutside, passedOver}
+use Rattle.zero_based_tests.proofs.passed_over.Statement.{statement}
+use Rattle.zero_based_tests.proofs.passed_over.Tie as tie
 
 or-true : (b : Bool) → (b || true) ≡ true
 or-true true = refl
