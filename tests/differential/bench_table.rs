@@ -3,6 +3,7 @@
 //! Its rows on pairs are calls whose one pair step has that pair.
 
 use crate::buffers::{Buffers, Name};
+use crate::calls::End;
 use crate::places::{active, u_place};
 
 use Left::*;
@@ -19,6 +20,18 @@ pub struct Factors {
     pub n: usize,
     pub l: &'static [f64],
     pub u: &'static [f64],
+}
+
+impl Factors {
+    /// Writes the entries to their places.
+    pub fn write(&self, buffers: &mut Buffers, stride: usize) {
+        let (mut l, mut u) = (self.l.iter(), self.u.iter());
+        for (name, place) in active(stride, self.n) {
+            let values = if name == Name::L { &mut l } else { &mut u };
+            let value = values.next().expect("every active entry is given");
+            buffers[name].slice_mut()[place] = *value;
+        }
+    }
 }
 
 #[derive(Clone, Copy)]
@@ -385,40 +398,45 @@ pub struct Found<'a> {
 }
 
 impl Found<'_> {
-    /// The first thing that is not as the table has it. Answers are compared elsewhere.
-    pub fn difference(&self, left: &Left) -> Option<String> {
+    /// The first thing that is not as the table has it, or None where the table speaks
+    /// of an answer. With `changed` the last bit of the table's last value is another.
+    pub fn difference(&self, left: &Left, changed: bool) -> Option<String> {
         match *left {
             All(Factors { n, .. }) if self.n != n => {
                 Some(format!("dimension {}, the table has {n}", self.n))
             }
-            All(Factors { l, u, .. }) => {
-                self.factor(Name::L, l).or_else(|| self.factor(Name::U, u))
-            }
+            All(Factors { l, u, .. }) => self
+                .factor(Name::L, l, false)
+                .or_else(|| self.factor(Name::U, u, changed)),
             EntryOfU(i, j, value) => {
                 let found = self.buffers[Name::U].slice()[u_place(self.stride, i, j)];
-                first_difference("u", &[found], &[value])
+                first_difference("u", &[found], &[value], changed)
             }
-            Solved(values) => first_difference("the solved vector", self.solved, values),
+            Solved(values) => first_difference("the solved vector", self.solved, values, changed),
             Refused(..) | Moved(..) => None,
         }
     }
 
-    fn factor(&self, name: Name, values: &[f64]) -> Option<String> {
+    fn factor(&self, name: Name, values: &[f64], changed: bool) -> Option<String> {
         let places = active(self.stride, self.n).filter(|&(of, _)| of == name);
         let found: Vec<_> = places
             .map(|(_, place)| self.buffers[name].slice()[place])
             .collect();
-        first_difference(name.text(), &found, values)
+        first_difference(name.text(), &found, values, changed)
     }
 }
 
 /// Bit for bit, with all NaNs alike.
-fn first_difference(what: &str, found: &[f64], expected: &[f64]) -> Option<String> {
+fn first_difference(what: &str, found: &[f64], expected: &[f64], changed: bool) -> Option<String> {
+    let mut expected = expected.to_vec();
+    if let (true, Some(last)) = (changed, expected.last_mut()) {
+        *last = f64::from_bits(if last.is_nan() { 0 } else { last.to_bits() ^ 1 });
+    }
     if found.len() != expected.len() {
         let (found, expected) = (found.len(), expected.len());
         return Some(format!("{what}: {found} entries, the table has {expected}"));
     }
-    let mut pairs = found.iter().zip(expected).enumerate();
+    let mut pairs = found.iter().zip(&expected).enumerate();
     let differ = |(found, expected): (&f64, &f64)| {
         found.to_bits() != expected.to_bits() && !(found.is_nan() && expected.is_nan())
     };
@@ -426,4 +444,25 @@ fn first_difference(what: &str, found: &[f64], expected: &[f64]) -> Option<Strin
     Some(format!(
         "entry {k} of {what} is {found:?}, the table has {expected:?}"
     ))
+}
+
+/// Ends the run where something that is left is not as the row has it, and where a
+/// changed value of the row would not be found. `difference` is told whether the
+/// value is changed.
+pub fn check<'a>(
+    row: &Row,
+    mut left: impl Iterator<Item = &'a Left>,
+    difference: impl Fn(&Left, bool) -> Option<String>,
+) -> Result<(), End> {
+    left.try_for_each(|left| {
+        if let Some(what) = difference(left, false) {
+            println!("difference in the bench table's row '{}': {what}", row.what);
+            return Err(End::Differs);
+        }
+        if difference(left, true).is_none() {
+            println!("a changed value of the bench table's row '{}'", row.what);
+            return Err(End::PlantedNotFound);
+        }
+        Ok(())
+    })
 }

@@ -4,11 +4,11 @@
 use super::answer::Answer;
 use super::call::{Call, Function, Instance, DATA};
 use super::comparison::{Comparison, Sides};
-use crate::bench_table::{rows, Factors, Found, Interface, Left, Operation, Row};
+use crate::bench_table::{check, rows, Factors, Found, Interface, Left, Operation, Row};
 use crate::bench_table::{LENGTHS, PLACES};
 use crate::buffers::{Buffer, Name};
 use crate::calls::End;
-use crate::places::{active, u_place};
+use crate::places::u_place;
 use crate::random::Random;
 
 /// The Rust's, then the archive's. The largest dimension of a row is 4.
@@ -69,34 +69,45 @@ fn play_row(row: &Row, random: &mut Random, comparison: &mut Comparison) -> Resu
         let call = lend(operation, &mut sides, random);
         answer = Some(comparison.answer(&call, &mut sides, random)?);
     }
-    let answer = answer.expect("a row has a call");
-    if let Some(what) = answer_difference(&answer, row.left) {
-        return differs(row.what, &format!("the archive answered {what}"));
+    let Answer { number, outputs } = answer.expect("a row has a call");
+    let refused = |left: &Left| matches!(left, Left::Refused(..));
+    if number != 0 && !row.left.iter().any(refused) {
+        return differs(row.what, &format!("the archive answered {number}"));
     }
-    for instance in &sides.archive {
-        let found = Found {
-            n: instance.n,
-            stride: instance.c,
-            buffers: &instance.buffers,
-            solved: instance.buffers[Name::RightHandSide].slice(),
-        };
-        if let Some(what) = row.left.iter().find_map(|left| found.difference(left)) {
-            return differs(row.what, &what);
+    check(row, row.left.iter(), |left, changed| match *left {
+        Left::Refused(number_there, index) => differing(
+            (number, outputs.index),
+            (number_there, index + usize::from(changed)),
+        ),
+        Left::Moved(moved_row, column) => {
+            let [moved_row, column] = [moved_row, column].map(|index| index.unwrap_or(usize::MAX));
+            differing(
+                (outputs.moved_row, outputs.moved_column),
+                (moved_row, column.wrapping_add(usize::from(changed))),
+            )
         }
-    }
-    Ok(())
+        _ => sides.archive.iter().find_map(|instance| {
+            let found = Found {
+                n: instance.n,
+                stride: instance.c,
+                buffers: &instance.buffers,
+                solved: instance.buffers[Name::RightHandSide].slice(),
+            };
+            found.difference(left, changed)
+        }),
+    })
+}
+
+fn differing<T: PartialEq + std::fmt::Debug>(found: T, expected: T) -> Option<String> {
+    let what = format!("the archive answered {found:?}, the table has {expected:?}");
+    (found != expected).then_some(what)
 }
 
 /// The factors at a capacity, and all else unused. The counter is at 0.
 fn holding(factors: &Factors, c: usize, random: &mut Random) -> Instance {
     let mut instance = Instance::new(factors.n, c, random);
     instance.counter = 0;
-    let (mut l, mut u) = (factors.l.iter(), factors.u.iter());
-    for (name, place) in active(c, factors.n) {
-        let values = if name == Name::L { &mut l } else { &mut u };
-        let value = values.next().expect("a row has every active entry");
-        instance.buffers[name].slice_mut()[place] = *value;
-    }
+    factors.write(&mut instance.buffers, c);
     instance
 }
 
@@ -144,28 +155,4 @@ fn lend(operation: &Operation, sides: &mut Sides, random: &mut Random) -> Call {
         instance.lend_workspaces(length, random);
     }
     call
-}
-
-fn answer_difference(answer: &Answer, left: &[Left]) -> Option<String> {
-    let Answer { number, outputs } = answer;
-    let refused = left.iter().find_map(|left| match *left {
-        Left::Refused(number, index) => Some((number, index)),
-        _ => None,
-    });
-    let found = (*number, outputs.index);
-    match refused {
-        Some(expected) if found != expected => {
-            return Some(format!("{found:?}, the table has {expected:?}"))
-        }
-        None if *number != 0 => return Some(format!("{number}, the table has 0")),
-        _ => {}
-    }
-    left.iter().find_map(|left| {
-        let Left::Moved(row, column) = *left else {
-            return None;
-        };
-        let expected = [row, column].map(|index| index.unwrap_or(usize::MAX));
-        let found = [outputs.moved_row, outputs.moved_column];
-        (found != expected).then(|| format!("moved {found:?}, the table has {expected:?}"))
-    })
 }

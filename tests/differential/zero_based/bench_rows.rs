@@ -5,10 +5,9 @@
 use super::arguments::{Arguments, Function};
 use super::comparison::Comparison;
 use super::limits::lengths;
-use crate::bench_table::{rows, Factors, Found, Interface, Left, Operation, Row};
+use crate::bench_table::{check, rows, Factors, Found, Interface, Left, Operation, Row};
 use crate::buffers::{Buffer, Buffers, Name, VECTORS};
 use crate::calls::End;
-use crate::places::active;
 use crate::random::Random;
 
 /// The largest dimension of a row is 4.
@@ -33,8 +32,11 @@ pub fn play(random: &mut Random, comparison: &mut Comparison) -> Result<usize, E
 
 fn fits(row: &Row) -> bool {
     let refused = |left: &Left| matches!(left, Left::Refused(..));
-    let moved = |left: &Left| matches!(left, Left::Moved(..));
-    !row.left.iter().any(refused) && !row.left.iter().all(moved)
+    !row.left.iter().any(refused) && !row.left.iter().all(is_moved)
+}
+
+fn is_moved(left: &Left) -> bool {
+    matches!(left, Left::Moved(..))
 }
 
 fn play_row(row: &Row, random: &mut Random, comparison: &mut Comparison) -> Result<(), End> {
@@ -48,24 +50,14 @@ fn play_row(row: &Row, random: &mut Random, comparison: &mut Comparison) -> Resu
         buffers: &storage.buffers,
         solved: &storage.solved,
     };
-    match row.left.iter().find_map(|left| found.difference(left)) {
-        Some(what) => {
-            println!("difference in the bench table's row '{}': {what}", row.what);
-            Err(End::Differs)
-        }
-        None => Ok(()),
-    }
+    let left = row.left.iter().filter(|left| !is_moved(left));
+    check(row, left, |left, changed| found.difference(left, changed))
 }
 
 impl Storage {
     fn holding(factors: &Factors, random: &mut Random) -> Self {
         let mut buffers = Buffers::new(lengths(STRIDE, STRIDE, random), random);
-        let (mut l, mut u) = (factors.l.iter(), factors.u.iter());
-        for (name, place) in active(STRIDE, factors.n) {
-            let values = if name == Name::L { &mut l } else { &mut u };
-            let value = values.next().expect("a row has every active entry");
-            buffers[name].slice_mut()[place] = *value;
-        }
+        factors.write(&mut buffers, STRIDE);
         Self {
             n: factors.n,
             buffers,
