@@ -15,7 +15,7 @@ pub enum Call {
     ReplaceColumn,
     Remove,
     Solve,
-    TransposeSolve,
+    SolveTranspose,
 }
 
 pub const CALLS: [Call; 6] = [
@@ -24,7 +24,7 @@ pub const CALLS: [Call; 6] = [
     Call::ReplaceColumn,
     Call::Remove,
     Call::Solve,
-    Call::TransposeSolve,
+    Call::SolveTranspose,
 ];
 
 impl Call {
@@ -35,12 +35,12 @@ impl Call {
             Call::ReplaceColumn => "replace column",
             Call::Remove => "remove",
             Call::Solve => "solve",
-            Call::TransposeSolve => "transpose solve",
+            Call::SolveTranspose => "transpose solve",
         }
     }
 
     pub fn is_solve(self) -> bool {
-        matches!(self, Call::Solve | Call::TransposeSolve)
+        matches!(self, Call::Solve | Call::SolveTranspose)
     }
 }
 

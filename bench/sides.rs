@@ -97,7 +97,7 @@ pub fn run<'a, F: Factors<'a>>(inputs: &Inputs, case: &Case, batch: &'a mut Batc
         Call::ReplaceColumn => time(&mut factors, |f| f.replace_column(case, &mut workspace)),
         Call::Remove => time(&mut factors, |f| f.remove(case, &mut workspace)),
         Call::Solve => time(rhs, |rhs| factors[0].solve(rhs)),
-        Call::TransposeSolve => time(rhs, |rhs| factors[0].solve_transpose(rhs)),
+        Call::SolveTranspose => time(rhs, |rhs| factors[0].solve_transpose(rhs)),
     }
 }
 

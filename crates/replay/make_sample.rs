@@ -8,7 +8,7 @@ mod data;
 #[path = "../../tests/differential/random.rs"]
 mod random;
 
-use data::{garbage, near, Profile, MANAGED};
+use data::{near, unused_value, Profile, MANAGED};
 use random::Random;
 use rlumod::api::{ColumnIndex, LuMod, RowIndex, SolveError, StorageError, UpdateError, Workspace};
 
@@ -178,9 +178,9 @@ impl Instance {
         &self.u[u_start(self.c, i)..][..self.n - i]
     }
 
-    /// Garbage all over, then factors at dimension n that need not be those of any matrix.
+    /// Anything at all in the storage, then factors at dimension n that need not be those of any matrix.
     fn new(n: usize, c: usize, profile: Profile, random: &mut Random) -> Self {
-        let mut any = || (0..256).map(|_| garbage(random)).collect::<Vec<_>>();
+        let mut any = || (0..256).map(|_| unused_value(random)).collect::<Vec<_>>();
         let (l, u, work) = (any(), any(), [any(), any(), any()]);
         let mut instance = Self { n, c, l, u, work };
         let sparse = random.chance(1, 2);
@@ -252,7 +252,7 @@ fn add_list(list: usize, sample: &mut Sample, random: &mut Random) {
         let mut call = sound_call(&instance, largest, profile, random);
         if random.chance(1, 4) {
             for _ in 0..random.between(1, 2) {
-                spoil(&mut call, &instance, random);
+                add_cause(&mut call, &instance, random);
             }
         }
         add_call(&call, &mut instance, sample);
@@ -330,7 +330,7 @@ fn put_tolerance(vector: &mut [f64], random: &mut Random) {
 }
 
 /// Gives the call a reason to be refused, if its function has the one that is picked.
-fn spoil(call: &mut Call, instance: &Instance, random: &mut Random) {
+fn add_cause(call: &mut Call, instance: &Instance, random: &mut Random) {
     let &Instance { n, c, .. } = instance;
     let past = random.pick(&[n, n + 1, n + 3, usize::MAX]);
     match random.below(9) {

@@ -2,7 +2,7 @@
 
 use std::ops::{Index, IndexMut};
 
-use crate::data::garbage;
+use crate::data::unused_value;
 use crate::random::Random;
 
 const BESIDE: usize = 3;
@@ -21,10 +21,11 @@ pub struct Buffer {
 }
 
 impl Buffer {
-    /// Garbage. The start is sometimes a multiple of 16 bytes and sometimes not.
+    /// With what unused storage holds. The start is sometimes a multiple of 16 bytes
+    /// and sometimes not.
     pub fn new(length: usize, random: &mut Random) -> Self {
         let start = BESIDE + random.below(2);
-        let cells = (0..start + length + BESIDE).map(|_| garbage(random));
+        let cells = (0..start + length + BESIDE).map(|_| unused_value(random));
         Self {
             cells: cells.collect(),
             start,
@@ -56,7 +57,7 @@ impl Buffer {
         let end = self.start + self.length.min(length);
         self.cells.truncate(end);
         while self.cells.len() < self.start + length + BESIDE {
-            self.cells.push(garbage(random));
+            self.cells.push(unused_value(random));
         }
         self.length = length;
     }
@@ -107,8 +108,8 @@ impl Name {
 pub struct Buffers([Buffer; NAMES.len()]);
 
 impl Buffers {
-    /// Garbage in buffers of the given lengths, in the order l, u, y, z, w. The
-    /// others are empty.
+    /// Buffers of the given lengths, in the order l, u, y, z, w, with what unused
+    /// storage holds. The others are empty.
     pub fn new(lengths: [usize; 5], random: &mut Random) -> Self {
         let length = |name| lengths.get(name as usize).map_or(0, |&length| length);
         Self(NAMES.map(|name| Buffer::new(length(name), random)))

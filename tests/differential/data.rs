@@ -197,7 +197,7 @@ fn nan(random: &mut Random) -> f64 {
 
 /// What unused storage and workspaces hold: often NaNs, each with a payload of
 /// its own, so that a read shows and so does a write.
-pub fn garbage(random: &mut Random) -> f64 {
+pub fn unused_value(random: &mut Random) -> f64 {
     let kind = random.pick(&[Nan, Nan, Nan, Nan, Uniform, AnyBits, Zero, Infinity]);
     value(kind, random)
 }

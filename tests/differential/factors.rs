@@ -1,7 +1,7 @@
 //! Factors and vectors that a call is given.
 
 use crate::buffers::{Buffers, Name};
-use crate::data::{garbage, Profile};
+use crate::data::{unused_value, Profile};
 use crate::places::{active, diagonal, l_place, u_place};
 use crate::random::Random;
 
@@ -70,7 +70,7 @@ pub fn fill_vector(
 }
 
 /// A number for each diagonal entry of U that a solve would be refused for.
-pub fn mend_diagonal(u: &mut [f64], stride: usize, n: usize, random: &mut Random) {
+pub fn replace_bad_diagonal(u: &mut [f64], stride: usize, n: usize, random: &mut Random) {
     for place in diagonal(stride, n) {
         if u[place] == 0.0 || !u[place].is_finite() {
             let magnitude = 1.0 + random.unit();
@@ -86,12 +86,12 @@ pub fn copy_active(n: usize, from: (&Buffers, usize), to: (&mut Buffers, usize))
     }
 }
 
-/// Garbage in all storage that is not active at dimension n.
-pub fn scramble_unused(buffers: &mut Buffers, stride: usize, n: usize, random: &mut Random) {
+/// Anything at all in the storage that is not active at dimension n.
+pub fn fill_unused(buffers: &mut Buffers, stride: usize, n: usize, random: &mut Random) {
     let l = buffers[Name::L].slice_mut();
     for (place, value) in l.iter_mut().enumerate() {
         if n == 0 || place / stride >= n || place % stride >= n {
-            *value = garbage(random);
+            *value = unused_value(random);
         }
     }
     let u = buffers[Name::U].slice_mut();
@@ -99,12 +99,12 @@ pub fn scramble_unused(buffers: &mut Buffers, stride: usize, n: usize, random: &
     for i in 0..stride {
         for j in i..stride {
             if j >= n {
-                u[place] = garbage(random);
+                u[place] = unused_value(random);
             }
             place += 1;
         }
     }
-    u[place..].fill_with(|| garbage(random));
+    u[place..].fill_with(|| unused_value(random));
 }
 
 /// Whether there is little left to compute with: no number on U's diagonal

@@ -6,12 +6,13 @@
 //! Exit status: 0 no difference, 1 a difference or something that was not
 //! reached, 2 anything else.
 
-mod aim;
+mod bench_table;
 mod buffers;
 mod calls;
 mod data;
 mod expectation;
 mod factors;
+mod guards;
 mod managed;
 mod places;
 mod plant;

@@ -14,7 +14,7 @@ use Rattle.machine.specs.Calls.{Answer, _orElse_, refusalNumber, refuseIf}
 use Rattle.machine.proofs.Refusals.{none-is-some}
 use Rattle.storage.specs.Places.{uLength}
 use Rattle.host_numbers.specs.Numbers.{sizeOf, outside}
-use Rattle.zero_based.specs.Refusals.{indexOutside, passedOver, updateLacksRoom, productLacksRoom, solveLacksRoom}
+use Rattle.zero_based_tests.specs.Refusals.{indexOutside, passedOver, updateLacksRoom, productLacksRoom, solveLacksRoom}
 use Rattle.lumod_c.specs.Outcome.{Outcome, Untouched}
 
 -- ---- the chain of two refusals

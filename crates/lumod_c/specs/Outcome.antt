@@ -16,7 +16,7 @@ use Rattle.storage.specs.Views.{viewL, viewU}
 use Rattle.ranges.specs.Written.{Written}
 use Rattle.modes.specs.UpdateDone.{UpdateDone}
 use Rattle.host_numbers.specs.Numbers.{sizeOf, strideOf}
-use Rattle.zero_based.specs.Refusals.{updateRefusal, productRefusal, solveRefusal}
+use Rattle.zero_based_tests.specs.Refusals.{updateRefusal, productRefusal, solveRefusal}
 
 -- A call that a test refuses returns the refusal's number and leaves all untouched; any other returns 0 and is performed.
 pub record Outcome (refusal : Option Answer) (Untouched Performed : Type 0) (answer : ℕ) : Type 0 where

@@ -10,10 +10,10 @@ use products::l_product;
 use products::l_product_transposed;
 use substitutions::back_substitute;
 use substitutions::forward_substitute;
-use zero_based::passed_over;
-use zero_based::product_lacks_room;
-use zero_based::solve_lacks_room;
-use zero_based::update_lacks_room;
+use zero_based_tests::passed_over;
+use zero_based_tests::product_lacks_room;
+use zero_based_tests::solve_lacks_room;
+use zero_based_tests::update_lacks_room;
 
 // Updates the factors. Mode 1 appends a row and a column (n is the new dimension; row and diagonal in y, column in z), 2 replaces column kcol by z, 3 replaces
 // row krow by y, 4 removes row krow and column kcol. 11 where n, mode or an index is out of range, 12 where a buffer is too short; then nothing is written.

@@ -7,7 +7,7 @@ use native.Mathlib.Nat.{le-of-lt, le-of-eq, lt-of-le-of-lt, lt-of-not-le, lt-irr
 use native.Mathlib.Omega.{arith}
 use mathlib.Core.Bool.{Bool, true, false, not, _&&_, _||_, cond}
 use lib.IntN.{ℤ, pos}
-use lib.Dec.{T, ltb, eqb, eqb→eq, ltb→lt, lt→ltb, not-T, T-not}
+use lib.Dec.{T as So, ltb, eqb, eqb→eq, ltb→lt, lt→ltb, not-T, T-not}
 use lib.Ieee.{Float, nan, inf, fin, Format, binary32, binary64, prec, emax, low, unlike, up, down, odd, units, round, neg, mul, div, le, ofBits}
 use lib.Ieee.Fits.{up-pos, down-pos, eq→eqb, and-i, and-l}
 use lib.Ieee.Bits.{cond-no}
@@ -46,41 +46,41 @@ unfolding round
 one-rounds binary32 = refl
 one-rounds binary64 = refl
 
-round-le-one : (f : Format) (s : Bool) (a b : ℕ) → 0 < b → a ≤ b → T (le (absolute (round f s a b)) +1)
+round-le-one : (f : Format) (s : Bool) (a b : ℕ) → 0 < b → a ≤ b → So (le (absolute (round f s a b)) +1)
 round-le-one f s a b B h =
-    subst (λ (z : Float). T (le z +1)) (sym (round-absolute f s a b))
-    (subst (λ (z : Float). T (le (round f false a b) z)) (one-rounds f) (round-mono f a b 1 1 B (zero-lt-suc 0) (omega arith)))
+    subst (λ (z : Float). So (le z +1)) (sym (round-absolute f s a b))
+    (subst (λ (z : Float). So (le (round f false a b) z)) (one-rounds f) (round-mono f a b 1 1 B (zero-lt-suc 0) (omega arith)))
 
 -- ---- the tests of `le` at two numbers of one sign
 
-or-l : (a b : Bool) → T a → T (a || b)
+or-l : (a b : Bool) → So a → So (a || b)
 or-l true b t = tt
 or-l false b t = absurd t
 
-or-r : (a b : Bool) → T b → T (a || b)
+or-r : (a b : Bool) → So b → So (a || b)
 or-r true b t = tt
 or-r false b t = t
 
-le→ : (a b : ℕ) → T (ltb a b || (eqb a b && true)) → a ≤ b
+le→ : (a b : ℕ) → So (ltb a b || (eqb a b && true)) → a ≤ b
 le→ a b = go (ltb a b) (eqb a b) (ltb→lt a b) (eqb→eq a b)
   where
-    go : (p q : Bool) → (T p → a < b) → (T q → a ≡ b) → T (p || (q && true)) → a ≤ b
+    go : (p q : Bool) → (So p → a < b) → (So q → a ≡ b) → So (p || (q && true)) → a ≤ b
     go true q h k t = le-of-lt (h tt)
     go false q h k t = le-of-eq (k (and-l q true t))
 
 -- c and d are a and b, in either order
-→le : (a b c d : ℕ) → a ≤ b → (a ≡ b → c ≡ d) → T (ltb a b || (eqb c d && true))
+→le : (a b c d : ℕ) → a ≤ b → (a ≡ b → c ≡ d) → So (ltb a b || (eqb c d && true))
 →le a b c d h e =
     elim (eq-or-lt-of-le h) [
       | inl p ↦ or-r (ltb a b) (eqb c d && true) (and-i (eqb c d) true (eq→eqb (e p)) tt)
       | inr q ↦ or-l (ltb a b) (eqb c d && true) (lt→ltb a b q)
     ]
 
-gt→ : (a b : ℕ) → T (not (ltb a b || (eqb a b && true))) → b < a
+gt→ : (a b : ℕ) → So (not (ltb a b || (eqb a b && true))) → b < a
 gt→ a b n = lt-of-not-le (λ (h : a ≤ b). T-not (ltb a b || (eqb a b && true)) n (→le a b a b h (λ e. e)))
 
 -- ---- |z| ≤ 1 is −1 ≤ z ≤ 1
-within : (z : Float) → T (le (absolute z) +1) → Within z
+within : (z : Float) → So (le (absolute z) +1) → Within z
 unfolding absolute le
 within nan h = absurd h
 within (inf s) h = absurd h
@@ -105,7 +105,7 @@ quotient f s m e u n d N h =
 zero-times : (a b : ℕ) → 0 * a * b ≡ 0
 zero-times a b = omega arith
 
-zero-under : (e : ℤ) (t : Float) → T (le +0 t) → T (le (fin false 0 e) t)
+zero-under : (e : ℤ) (t : Float) → So (le +0 t) → So (le (fin false 0 e) t)
 unfolding le
 zero-under e nan h = absurd h
 zero-under e (inf v) h = h
@@ -115,18 +115,18 @@ zero-under e (fin true k c) h =
     and-i (eqb (0 * up e * down c) (k * up c * down e)) (eqb (0 * up e * down c) 0)
     (eq→eqb (zero-times (up e) (down c) ∙ sym (ap (λ (a : ℕ). a * down e) z ∙ zero-mul (down e)))) (eq→eqb (zero-times (up e) (down c)))
 
-guarded : (t : Float) (m : ℕ) (e : ℤ) → T (le +0 t) → T (not (le (fin false m e) t)) → 0 < m
+guarded : (t : Float) (m : ℕ) (e : ℤ) → So (le +0 t) → So (not (le (fin false m e) t)) → 0 < m
 guarded t m e g n =
     elim (eq-zero-or-pos m) [
-      | inl z ↦ absurd (T-not (le (fin false m e) t) n (subst (λ (k : ℕ). T (le (fin false k e) t)) (sym z) (zero-under e t g)))
+      | inl z ↦ absurd (T-not (le (fin false m e) t) n (subst (λ (k : ℕ). So (le (fin false k e) t)) (sym z) (zero-under e t g)))
       | inr p ↦ p
     ]
 
 -- ---- the theorem
 
 -- what holds of each way's multiplier holds of the one that the tests pick
-each : (a b c : Bool) (o p q r : Step Float) → (T a → T b → Within (o .multiplier)) → (T a → T (not b) → Within (p .multiplier))
-    → (T (not a) → T c → Within (q .multiplier)) → (T (not a) → T (not c) → Within (r .multiplier)) → Within (cond a (cond b o p) (cond c q r) .multiplier)
+each : (a b c : Bool) (o p q r : Step Float) → (So a → So b → Within (o .multiplier)) → (So a → So (not b) → Within (p .multiplier))
+    → (So (not a) → So c → Within (q .multiplier)) → (So (not a) → So (not c) → Within (r .multiplier)) → Within (cond a (cond b o p) (cond c q r) .multiplier)
 each true true c o p q r h k l n = h tt tt
 each true false c o p q r h k l n = k tt tt
 each false b true o p q r h k l n = l tt tt
@@ -137,7 +137,7 @@ unfolding le ofBits
 zero-within binary32 = (tt, tt)
 zero-within binary64 = (tt, tt)
 
-pub multiplier-within : (f : Format) (t x y : Float) → T (finite x) → T (finite y) → T (le (zeroOf f) t) → Within (pairStep (ieee f) t x y .multiplier)
+pub multiplier-within : (f : Format) (t x y : Float) → So (finite x) → So (finite y) → So (le (zeroOf f) t) → Within (pairStep (ieee f) t x y .multiplier)
 unfolding pairStep absolute neg le
 multiplier-within f t nan y p q g = absurd p
 multiplier-within f t (inf s) y p q g = absurd p
@@ -146,7 +146,7 @@ multiplier-within f t (fin s m e) (inf u) p q g = absurd q
 multiplier-within f t (fin s m e) (fin u n d) p q g =
     let X = m * up e * down d in
     let Y = n * up d * down e in
-    let G : T (le +0 t) = subst (λ (z : Float). T (le z t)) (zero-is f) g in
+    let G : So (le +0 t) = subst (λ (z : Float). So (le z t)) (zero-is f) g in
     each (le (fin false n d) (fin false m e)) (le (fin false m e) t) (le (fin false n d) t) _ _ _ _
     (λ h k. zero-within f)
     (λ h k. quotient f (not u) n d s m e (guarded t m e G k) (le→ Y X h))
@@ -163,17 +163,17 @@ stepped f t x y x′ swap m e = record {
 
 -- ---- for the tolerances of either interface nothing is asked of T
 
-managed-guard : (f : Format) → T (le (zeroOf f) (managedTiny f))
+managed-guard : (f : Format) → So (le (zeroOf f) (managedTiny f))
 unfolding mul le ofBits managedEpsilon updateTiny
 managed-guard binary32 = tt
 managed-guard binary64 = tt
 
-zero-based-guard : T (le (zeroOf binary64) zeroBasedTiny)
+zero-based-guard : So (le (zeroOf binary64) zeroBasedTiny)
 unfolding mul le ofBits zeroBasedEpsilon updateTiny
 zero-based-guard = tt
 
-pub managed-within : (f : Format) (x y : Float) → T (finite x) → T (finite y) → Within (pairStep (ieee f) (managedTiny f) x y .multiplier)
+pub managed-within : (f : Format) (x y : Float) → So (finite x) → So (finite y) → Within (pairStep (ieee f) (managedTiny f) x y .multiplier)
 managed-within f x y p q = multiplier-within f (managedTiny f) x y p q (managed-guard f)
 
-pub zero-based-within : (x y : Float) → T (finite x) → T (finite y) → Within (pairStep (ieee binary64) zeroBasedTiny x y .multiplier)
+pub zero-based-within : (x y : Float) → So (finite x) → So (finite y) → Within (pairStep (ieee binary64) zeroBasedTiny x y .multiplier)
 zero-based-within x y p q = multiplier-within binary64 zeroBasedTiny x y p q zero-based-guard

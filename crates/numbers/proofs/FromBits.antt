@@ -4,7 +4,7 @@ use mathlib.Core.Path.{_≡_, refl, sym, ap, _∙_, subst}
 use Prim.Native.Nat.{ℕ, zero, suc, _+_, _-_, _/_, _%_}
 use native.Mathlib.Nat.{mod-lt, mod-mod, mod-mod-of-dvd, dvd-mul-right, mul-pos, zero-lt-suc}
 use mathlib.Core.Bool.{Bool, true, false, not, cond, true≢false}
-use lib.Dec.{T, leb, eqb}
+use lib.Dec.{T as So, leb, eqb}
 use lib.Arith.{lt→nleb}
 use lib.Pow.{pow-pos}
 use lib.Ieee.{Float, nan, inf, fin, Format, binary32, binary64, prec, low, odd, fits, isNan, ne, hid, ones, top, ofFields, ofBits, nanBits, toBits}
@@ -42,7 +42,7 @@ unsigned f b =
     ∙ sym (fields-absolute f (leb (top f) b) (b % top f / hid f) (b % hid f))
 
 -- what the code computes of a value that its format holds
-pub absolute-of-bits : (f : Format) (x : Float) → T (fits f x) → ofBits f (toBits f x % top f) ≡ absolute x
+pub absolute-of-bits : (f : Format) (x : Float) → So (fits f x) → ofBits f (toBits f x % top f) ≡ absolute x
 absolute-of-bits f x h = unsigned f (toBits f x) ∙ ap absolute (ofBits-toBits f x h)
 
 absolute-nan : (x : Float) → isNan (absolute x) ≡ isNan x
@@ -51,15 +51,15 @@ absolute-nan nan = refl
 absolute-nan (inf s) = refl
 absolute-nan (fin s m e) = refl
 
-pub absolute-bits-number : (f : Format) (x : Float) → T (fits f x) → T (not (isNan x)) → T (not (nanBits f (toBits f x % top f)))
-absolute-bits-number f x h n = subst (λ (b : Bool). T (not b)) (sym (nanBits-is f (toBits f x % top f) ∙ ap isNan (absolute-of-bits f x h) ∙ absolute-nan x)) n
+pub absolute-bits-number : (f : Format) (x : Float) → So (fits f x) → So (not (isNan x)) → So (not (nanBits f (toBits f x % top f)))
+absolute-bits-number f x h n = subst (λ (b : Bool). So (not b)) (sym (nanBits-is f (toBits f x % top f) ∙ ap isNan (absolute-of-bits f x h) ∙ absolute-nan x)) n
 
 -- the test `x != x`
 pub nan-absolute : (x : Float) → ne x x ≡ true → x ≡ absolute x
 unfolding absolute
-nan-absolute x e = subst (λ (z : Float). z ≡ absolute z) (sym (differs-from-itself x (subst T (sym e) tt))) refl
+nan-absolute x e = subst (λ (z : Float). z ≡ absolute z) (sym (differs-from-itself x (subst So (sym e) tt))) refl
 
-pub is-number : (x : Float) → ne x x ≡ false → T (not (isNan x))
+pub is-number : (x : Float) → ne x x ≡ false → So (not (isNan x))
 unfolding isNan
 is-number nan e = absurd (true≢false (sym nan-differs ∙ e))
 is-number (inf s) e = tt
@@ -82,11 +82,11 @@ fields-finite f s (suc x) t = go (eqb (suc x) (ones f)) (eqb t 0)
     go true false = refl
     go false b = odd-finite (prec f) s (hid f + t) x (low f)
 
-pub finite-of-bits : (f : Format) (x : Float) → T (fits f x) → not (eqb (toBits f x % top f / hid f) (ones f)) ≡ finite x
+pub finite-of-bits : (f : Format) (x : Float) → So (fits f x) → not (eqb (toBits f x % top f / hid f) (ones f)) ≡ finite x
 unfolding ofBits
 finite-of-bits f x h =
     let b = toBits f x in
     sym (fields-finite f (leb (top f) b) (b % top f / hid f) (b % hid f)) ∙ ap finite (ofBits-toBits f x h)
 
 pub nan-not-finite : (x : Float) → ne x x ≡ true → false ≡ finite x
-nan-not-finite x e = subst (λ (z : Float). false ≡ finite z) (sym (differs-from-itself x (subst T (sym e) tt))) refl
+nan-not-finite x e = subst (λ (z : Float). false ≡ finite z) (sym (differs-from-itself x (subst So (sym e) tt))) refl

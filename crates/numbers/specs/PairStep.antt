@@ -4,7 +4,7 @@ use mathlib.Core.Path.{_≡_, refl}
 use mathlib.Core.Bool.{Bool, true, false, cond}
 use Prim.Native.Nat.{_+_, _^_}
 use lib.IntN.{pos, negsuc}
-use lib.Dec.{T}
+use lib.Dec.{T as So}
 use lib.Ieee.{Float, nan, inf, fin, Format, binary32, binary64, neg, add, mul, div, le, eq, ofBits}
 use lib.Ieee.Scale.{finite}
 use Rattle.numbers.specs.NumberForm.{NumberForm, nearest, absolute, zeroOf, oneOf, ieee, double, whole}
@@ -38,15 +38,15 @@ module _ (N : NumberForm) where
   unfolding first
   second swap m a b = cond (isZero m) (first swap b a) (add (first swap b a) (mul m (first swap a b)))
 
--- −1 ≤ m ≤ 1, so m is no NaN
+-- −1 ≤ m ≤ 1, so m is no NaN. `So b` says that b is true; the library's name for it is T, which here is the tolerance
 abbrev pub Within : Float → Type 0
-Within m = T (le (fin true 1 (pos 0)) m) × T (le m (fin false 1 (pos 0)))
+Within m = So (le (fin true 1 (pos 0)) m) × So (le m (fin false 1 (pos 0)))
 
 -- what `elementary` leaves of x and y, with the guard t: the pair step, y cleared, and for finite x and y the bound of the multiplier
 pub record Stepped (f : Format) (t x y x′ y′ : Float) (swap : Bool) (multiplier : Float) : Type 0 where
   pub step : stepOf x′ swap multiplier ≡ pairStep (ieee f) t x y
   pub cleared : y′ ≡ ieee f .zero
-  pub bounded : T (finite x) → T (finite y) → T (le (ieee f .zero) t) → Within multiplier
+  pub bounded : So (finite x) → So (finite y) → So (le (ieee f .zero) t) → Within multiplier
 
 -- ---- the bench table's rows on pairs
 

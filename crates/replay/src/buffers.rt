@@ -1,11 +1,11 @@
-// The buffers of a list: filled with garbage, with stored factors, with the vectors of a call.
+// The buffers of a list: filled with contents that no call may read, with stored factors, with the vectors of a call.
 use crate::sample::after;
 use crate::sample::double;
 use crate::sample::sum;
 use crate::sample::word;
 
-// The bits from which the garbage of a list counts upward: NaNs, numbers near 10, subnormals, negative numbers near the largest.
-fn garbage_start(list: usize) -> u64 {
+// The bits from which the unused contents of a list count upward: NaNs, numbers near 10, subnormals, negative numbers near the largest.
+fn unused_start(list: usize) -> u64 {
     let own = list as u64 % 65536 * 65536;
     match list % 4 {
         0 => 0x7FF8_0000_0000_0000 + own,
@@ -24,7 +24,7 @@ pub struct Buffers {
     pub w: [f64; 256],
 }
 
-// A buffer of garbage.
+// A buffer of such contents.
 fn filled(bits: u64) -> [f64; 256] {
     let mut buffer = [0.0; 256];
     for i in 0..256 {
@@ -33,9 +33,9 @@ fn filled(bits: u64) -> [f64; 256] {
     buffer
 }
 
-// All buffers, with a list's garbage.
-pub fn garbage(list: usize) -> Buffers {
-    let buffer = filled(garbage_start(list));
+// All buffers, with a list's unused contents.
+pub fn unused(list: usize) -> Buffers {
+    let buffer = filled(unused_start(list));
     Buffers {
         l: buffer,
         u: buffer,

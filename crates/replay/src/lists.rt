@@ -2,8 +2,8 @@
 use crate::answer::Answered;
 use crate::answer::answers_differ;
 use crate::buffers::Buffers;
-use crate::buffers::garbage;
 use crate::buffers::placed;
+use crate::buffers::unused;
 use crate::buffers::vector;
 use crate::call::SOLVE;
 use crate::call::SOLVE_TRANSPOSE;
@@ -122,7 +122,7 @@ fn replay_call(data: &[u8], list: usize, call: usize, capacity: usize, before: S
     let record = read_record(data, progress.at);
     let next = advance(data, capacity, progress, record);
     state.progress = next;
-    if next.damaged {
+    if next.malformed {
         return state;
     }
     let outcome = perform(data, record, before.buffers);
@@ -151,7 +151,7 @@ fn replay_calls(data: &[u8], list: usize, calls: usize, capacity: usize, start: 
     while i < calls {
         i += 1;
         state = replay_call(data, list, i, capacity, state);
-        if state.progress.damaged {
+        if state.progress.malformed {
             return state;
         }
     }
@@ -168,14 +168,14 @@ fn replay_list(data: &[u8], list: usize, at: usize, counts: Counts) -> State {
         progress.factors_at,
         progress.dimension,
         capacity,
-        garbage(list),
+        unused(list),
     );
     let start = State {
         progress,
         buffers,
         counts,
     };
-    if progress.damaged {
+    if progress.malformed {
         return start;
     }
     replay_calls(data, list, calls, capacity, start)
@@ -184,7 +184,7 @@ fn replay_list(data: &[u8], list: usize, at: usize, counts: Counts) -> State {
 // All lists, counted from 1, from the third word on.
 fn replay_lists(data: &[u8], lists: usize) -> Replayed {
     let mut progress = Progress {
-        damaged: false,
+        malformed: false,
         at: 16,
         dimension: 0,
         factors_at: 0,
@@ -201,15 +201,15 @@ fn replay_lists(data: &[u8], lists: usize) -> Replayed {
         let state = replay_list(data, i, progress.at, counts);
         progress = state.progress;
         counts = state.counts;
-        if progress.damaged {
+        if progress.malformed {
             return Replayed { progress, counts };
         }
     }
     Replayed { progress, counts }
 }
 
-fn damage(at: usize) {
-    text(b"the sample is damaged at byte ");
+fn report_malformed(at: usize) {
+    text(b"the sample is malformed at byte ");
     print::size(at);
     text(b"\n");
 }
@@ -225,18 +225,18 @@ fn ends_with_check_word(data: &[u8], at: usize) -> bool {
 // Replays the whole sample and says what came of it.
 pub fn replay(data: &[u8]) {
     if word(data, 0) != FIRST_WORD {
-        damage(0);
+        report_malformed(0);
         return;
     }
     let lists = size(data, 8, 0);
     let replayed = replay_lists(data, lists);
     let progress = replayed.progress;
-    if progress.damaged {
-        damage(progress.at);
+    if progress.malformed {
+        report_malformed(progress.at);
         return;
     }
     if !ends_with_check_word(data, progress.at) {
-        damage(progress.at);
+        report_malformed(progress.at);
         return;
     }
     let counts = replayed.counts;

@@ -16,7 +16,7 @@ const LARGEST_CAPACITY: usize = 15;
 
 // How far a list has come: the position in the sample, the dimension and where the factors are stored.
 pub struct Progress {
-    pub damaged: bool,
+    pub malformed: bool,
     pub at: usize,
     pub dimension: usize,
     pub factors_at: usize,
@@ -31,9 +31,9 @@ pub struct Record {
     pub results_at: usize,
 }
 
-fn damaged_at(at: usize) -> Progress {
+fn malformed_at(at: usize) -> Progress {
     Progress {
-        damaged: true,
+        malformed: true,
         at,
         dimension: 0,
         factors_at: 0,
@@ -113,7 +113,7 @@ fn after_results(
     at: usize,
 ) -> Progress {
     let kept = Progress {
-        damaged: false,
+        malformed: false,
         at,
         dimension: before.dimension,
         factors_at: before.factors_at,
@@ -123,7 +123,7 @@ fn after_results(
     }
     if function <= REMOVE {
         return Progress {
-            damaged: false,
+            malformed: false,
             at: factors_end(at, answer.dimension),
             dimension: answer.dimension,
             factors_at: at,
@@ -131,7 +131,7 @@ fn after_results(
     }
     if function <= SOLVE_TRANSPOSE {
         return Progress {
-            damaged: false,
+            malformed: false,
             at: after(at, first),
             dimension: before.dimension,
             factors_at: before.factors_at,
@@ -145,7 +145,7 @@ pub fn advance(data: &[u8], capacity: usize, before: Progress, record: Record) -
     let call = record.call;
     let expected = record.expected;
     if !is_sound(call, expected, capacity) {
-        return damaged_at(before.at);
+        return malformed_at(before.at);
     }
     let next = after_results(
         before,
@@ -155,7 +155,7 @@ pub fn advance(data: &[u8], capacity: usize, before: Progress, record: Record) -
         record.results_at,
     );
     if next.at > data.len() {
-        return damaged_at(before.at);
+        return malformed_at(before.at);
     }
     next
 }
@@ -165,17 +165,17 @@ pub fn start_of(data: &[u8], at: usize, capacity: usize) -> Progress {
     let dimension = size(data, at, 2);
     let factors_at = after(at, 3);
     if capacity > LARGEST_CAPACITY {
-        return damaged_at(at);
+        return malformed_at(at);
     }
     if dimension > capacity {
-        return damaged_at(at);
+        return malformed_at(at);
     }
     let end = factors_end(factors_at, dimension);
     if end > data.len() {
-        return damaged_at(at);
+        return malformed_at(at);
     }
     Progress {
-        damaged: false,
+        malformed: false,
         at: end,
         dimension,
         factors_at,

@@ -101,7 +101,7 @@ pub struct Instance {
 }
 
 impl Instance {
-    /// Garbage, in storage that is sometimes longer than the capacity asks for.
+    /// Unused contents, in storage that is sometimes longer than the capacity asks for.
     pub fn new(n: usize, c: usize, random: &mut Random) -> Self {
         let l = c * (c + 1) + surplus(random);
         let u = c * (c + 1) / 2 + surplus(random);
@@ -120,7 +120,7 @@ impl Instance {
         self.buffers[name] = Buffer::holding(&values, random);
     }
 
-    /// New workspaces of garbage.
+    /// New workspaces, with contents that no call may read.
     pub fn lend_workspaces(&mut self, length: usize, random: &mut Random) {
         for name in VECTORS {
             self.buffers[name] = Buffer::new(length, random);

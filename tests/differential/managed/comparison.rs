@@ -50,6 +50,16 @@ impl Comparison {
 
     /// Makes a call on every instance.
     pub fn call(&mut self, call: &Call, sides: &mut Sides, random: &mut Random) -> Result<(), End> {
+        self.answer(call, sides, random).map(drop)
+    }
+
+    /// The same. Gives what the archive answered, in every instance.
+    pub fn answer(
+        &mut self,
+        call: &Call,
+        sides: &mut Sides,
+        random: &mut Random,
+    ) -> Result<Answer, End> {
         self.calls.count()?;
         let outputs = Outputs::any(random);
         let Sides { rust, archive } = sides;
@@ -74,9 +84,10 @@ impl Comparison {
         sides: &mut Sides,
         outputs: Outputs,
         answer: Answer,
-    ) -> Result<(), End> {
+    ) -> Result<Answer, End> {
         let Sides { rust, archive } = sides;
         let last = archive.len() - 1;
+        let mut answered = answer;
         for (k, instance) in archive.iter_mut().enumerate() {
             let before = instance.clone();
             let found = call_archive(call, instance, outputs);
@@ -87,11 +98,12 @@ impl Comparison {
             }
             let side = ["the archive", "the archive's second instance"][k];
             self.check(call, &before, &expected, (side, found, instance))?;
+            answered = found;
         }
         if self.planter.planted {
             return Err(End::PlantedNotFound);
         }
-        Ok(())
+        Ok(answered)
     }
 
     /// Counts a call with its paths. Gives the Rust's answer with the driver's own

@@ -5,12 +5,12 @@ use super::call::{Call, Function, Instance, DATA, FUNCTIONS};
 use super::comparison::{Comparison, Sides};
 use super::counter;
 use super::refusals::number;
-use super::spoil::{other_length, spoil};
-use crate::aim;
+use super::refused::{make_refused, other_length};
 use crate::buffers::{surplus, Buffer, Name};
 use crate::calls::End;
 use crate::data::{Profile, MANAGED};
-use crate::factors::{copy_active, fill_factors, is_degenerate, mend_diagonal, scramble_unused};
+use crate::factors::{copy_active, fill_factors, fill_unused, is_degenerate, replace_bad_diagonal};
+use crate::guards;
 use crate::places::{diagonal, l_column, l_place, u_column};
 use crate::random::Random;
 
@@ -135,8 +135,8 @@ impl List {
         }
     }
 
-    /// Workspaces that hold garbage or what the last call left, and often garbage in
-    /// the unused storage. Now and then workspaces are too short.
+    /// Workspaces that hold anything or what the last call left, and often other contents
+    /// in the unused storage. Now and then workspaces are too short.
     fn lend_workspaces(&mut self, call: &Call, random: &mut Random) {
         let Sides { rust, archive } = &mut self.sides;
         for instance in archive.iter_mut().chain([rust]) {
@@ -147,7 +147,7 @@ impl List {
                 instance.lend_workspaces(needed + surplus(random), random);
             }
             if random.chance(1, 3) {
-                scramble_unused(&mut instance.buffers, instance.c, instance.n, random);
+                fill_unused(&mut instance.buffers, instance.c, instance.n, random);
             }
         }
     }
@@ -166,8 +166,8 @@ impl List {
         }
         match random.below(6) {
             _ if self.sides.rust.n == 0 => {}
-            0 | 1 if self.at_start => self.aim_factors(call, random),
-            0..=2 => self.aim_data(call, random),
+            0 | 1 if self.at_start => self.factors_at_guards(call, random),
+            0..=2 => self.data_at_guards(call, random),
             _ => {}
         }
         let Sides { rust, archive } = &mut self.sides;
@@ -183,38 +183,38 @@ impl List {
     }
 
     /// Data at the guards of the call.
-    fn aim_data(&mut self, call: &Call, random: &mut Random) {
+    fn data_at_guards(&mut self, call: &Call, random: &mut Random) {
         let Instance { n, c, buffers, .. } = &mut self.sides.rust;
         let [_, u, _, _, _, row, column, _] = buffers.slices_mut();
         let pivots: Vec<_> = diagonal(*c, *n).map(|place| u[place]).collect();
         match call.function {
             Function::Push | Function::ReplaceRow if row.len() == *n => {
-                aim::at_forward(row, &pivots, MANAGED, random)
+                guards::at_forward(row, &pivots, MANAGED, random)
             }
             Function::ReplaceColumn if !column.is_empty() => {
-                aim::at_backward(column, MANAGED, random)
+                guards::at_backward(column, MANAGED, random)
             }
             _ => {}
         }
     }
 
     /// Factors at the guards of an update, or such that a solve is accepted.
-    fn aim_factors(&mut self, call: &Call, random: &mut Random) {
+    fn factors_at_guards(&mut self, call: &Call, random: &mut Random) {
         let Instance { n, c, buffers, .. } = &mut self.sides.rust;
         let [l, u, _, _, _, row, column, _] = buffers.slices_mut();
         match (call.function, random.below(2)) {
-            (Function::Push, _) if row.len() == *n => aim::at_pivot(row, u, *c, MANAGED, random),
-            (Function::Remove, 0) => aim::at_column(u, u_column(*c, *n - 1), MANAGED, random),
+            (Function::Push, _) if row.len() == *n => guards::at_pivot(row, u, *c, MANAGED, random),
+            (Function::Remove, 0) => guards::at_column(u, u_column(*c, *n - 1), MANAGED, random),
             (Function::ReplaceRow | Function::Remove, _) if call.row < *n => {
-                aim::at_column(l, l_column(*c, *n, call.row), MANAGED, random)
+                guards::at_column(l, l_column(*c, *n, call.row), MANAGED, random)
             }
             (Function::ReplaceColumn, 0) => {
                 let place = l_place(*c, random.below(*n), random.below(*n));
                 l[place] = f64::NAN;
-                aim::at_tiny(column, MANAGED, random);
+                guards::at_tiny(column, MANAGED, random);
             }
             (Function::Solve | Function::SolveTranspose | Function::Ready, _) => {
-                mend_diagonal(u, *c, *n, random)
+                replace_bad_diagonal(u, *c, *n, random)
             }
             _ => {}
         }
@@ -263,7 +263,7 @@ impl List {
             let mut causes = call.function.causes();
             let count = causes.len();
             causes.retain(|_| random.chance(2, count));
-            spoil(&causes, &mut call, &mut copy, random);
+            make_refused(&causes, &mut call, &mut copy, random);
         }
         comparison.call(&call, &mut Sides::alone(copy), random)
     }

@@ -2,6 +2,7 @@
 
 mod answer;
 mod archive;
+mod bench_rows;
 mod call;
 mod comparison;
 mod counter;
@@ -15,8 +16,8 @@ mod paths;
 mod plain;
 mod published;
 mod refusals;
+mod refused;
 mod sets;
-mod spoil;
 
 use crate::calls::{Calls, End};
 use crate::plant::Planter;
@@ -27,10 +28,11 @@ pub use faults::FAULTS;
 /// A run of so many calls must reach every answer and every path.
 const ENOUGH: u64 = 100_000;
 
-/// Sets of causes for a refusal, then lists. With a fault to plant lists alone.
+/// The bench table, sets of causes for a refusal, then lists. With a fault to plant
+/// lists alone.
 pub fn run(wanted: u64, seed: u64, kind: usize) -> End {
     if kind == 0 {
-        if let Err(end) = call_sets(seed) {
+        if let Err(end) = play_bench_table(seed).and_then(|()| call_sets(seed)) {
             return end;
         }
     }
@@ -40,6 +42,14 @@ pub fn run(wanted: u64, seed: u64, kind: usize) -> End {
         End::AllMade => summary(wanted, &comparison),
         end => end,
     }
+}
+
+fn play_bench_table(seed: u64) -> Result<(), End> {
+    let planter = Planter::of_kind(&FAULTS, 0, seed);
+    let mut comparison = Comparison::new(Calls::new(u64::MAX, seed), planter);
+    let rows = bench_rows::play(&mut Random::new(seed), &mut comparison)?;
+    println!("{rows} rows of the bench table by managed calls; 0 differences");
+    Ok(())
 }
 
 fn call_sets(seed: u64) -> Result<(), End> {

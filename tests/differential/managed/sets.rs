@@ -4,11 +4,11 @@
 use super::call::{Call, Function, Instance, DATA, FUNCTIONS};
 use super::comparison::{Comparison, Sides};
 use super::refusals::{first_cause, Cause};
-use super::spoil::spoil;
+use super::refused::make_refused;
 use crate::buffers::{surplus, Name};
 use crate::calls::End;
 use crate::data::Profile;
-use crate::factors::{fill_factors, mend_diagonal};
+use crate::factors::{fill_factors, replace_bad_diagonal};
 use crate::random::Random;
 
 /// Dimensions and capacities that agree.
@@ -72,7 +72,7 @@ fn call_set(
     let mut built = false;
     for (n, c) in SHAPES.repeat(ROUNDS) {
         let (mut call, mut instance) = agreeing(function, n, c, random);
-        spoil(causes, &mut call, &mut instance, random);
+        make_refused(causes, &mut call, &mut instance, random);
         let all_hold = causes.iter().all(|cause| cause.holds(&call, &instance));
         if all_hold && first_cause(&call, &instance) == causes.first().copied() {
             comparison.call(&call, &mut Sides::alone(instance), random)?;
@@ -97,7 +97,7 @@ fn agreeing(function: Function, n: usize, c: usize, random: &mut Random) -> (Cal
     };
     let mut instance = Instance::new(n, c, random);
     fill_factors(&mut instance.buffers, c, n, profile, random);
-    mend_diagonal(instance.buffers[Name::U].slice_mut(), c, n, random);
+    replace_bad_diagonal(instance.buffers[Name::U].slice_mut(), c, n, random);
     for name in DATA {
         instance.lend(name, n, profile, random);
     }

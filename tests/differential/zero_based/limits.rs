@@ -9,17 +9,17 @@ const MAX: i32 = i32::MAX;
 
 /// Moves some numbers and lengths of an agreeing call to or beyond a limit.
 /// Often one of each kind, so that two refusals meet.
-pub fn disturb(arguments: &mut Arguments, buffers: &mut Buffers, random: &mut Random) {
+pub fn change(arguments: &mut Arguments, buffers: &mut Buffers, random: &mut Random) {
     let (numbers, lengths) = random.pick(&[(1, 0), (1, 0), (0, 1), (0, 1), (1, 1), (1, 1), (2, 2)]);
     for _ in 0..lengths {
-        disturb_length(arguments, buffers, random);
+        change_length(arguments, buffers, random);
     }
     for _ in 0..numbers {
-        disturb_number(arguments, random);
+        change_number(arguments, random);
     }
 }
 
-fn disturb_number(arguments: &mut Arguments, random: &mut Random) {
+fn change_number(arguments: &mut Arguments, random: &mut Random) {
     let n = arguments.n;
     let maxmod = arguments.maxmod;
     let (less, more) = (n.saturating_sub(1), n.saturating_add(1));
@@ -51,17 +51,17 @@ fn dimensions(n: i32, stride: i32) -> [i32; 13] {
     ]
 }
 
-fn disturb_length(arguments: &Arguments, buffers: &mut Buffers, random: &mut Random) {
+fn change_length(arguments: &Arguments, buffers: &mut Buffers, random: &mut Random) {
     let name = random.pick(arguments.function.lent());
     let length = buffers[name].len();
-    let changed = match random.below(8) {
+    let length_now = match random.below(8) {
         0..=2 => length.saturating_sub(1),
         3 | 4 => 0,
         5 => random.below(length + 1),
         6 => length + 1 + random.below(5),
         _ => return set_vectors(arguments, buffers, random),
     };
-    buffers[name].set_len(changed, random);
+    buffers[name].set_len(length_now, random);
 }
 
 /// All three vectors exactly n long, or one shorter.

@@ -2,12 +2,12 @@
 
 use super::arguments::{Arguments, Function};
 use super::comparison::Comparison;
-use super::limits::{capacity, disturb, lengths, vector_lengths};
-use super::single::{aim_at_backward, aim_at_forward, fill_data};
+use super::limits::{capacity, change, lengths, vector_lengths};
+use super::single::{fill_data, put_at_backward, put_at_forward};
 use crate::buffers::{Buffer, Buffers, Name, VECTORS};
 use crate::calls::End;
 use crate::data::Profile;
-use crate::factors::{fill_factors, is_degenerate, scramble_unused};
+use crate::factors::{fill_factors, fill_unused, is_degenerate};
 use crate::random::Random;
 
 struct List {
@@ -34,7 +34,7 @@ pub fn call_list(random: &mut Random, comparison: &mut Comparison) -> Result<(),
 }
 
 impl List {
-    /// Empty, or at some dimension with arbitrary factors; garbage elsewhere.
+    /// Empty, or at some dimension with arbitrary factors; anything elsewhere.
     fn start(random: &mut Random) -> Self {
         let maxmod = capacity(random);
         let stride = maxmod.max(1) as usize;
@@ -60,15 +60,15 @@ impl List {
 
     fn step(&mut self, random: &mut Random, comparison: &mut Comparison) -> Result<(), End> {
         let arguments = self.next(random);
-        self.scramble(arguments.n as usize, random);
+        self.renew(arguments.n as usize, random);
         let profile = self.profile.or_other(random);
         fill_data(&arguments, &mut self.buffers, profile, random);
         self.place_product(&arguments, random);
         if random.chance(1, 6) {
-            self.aim(&arguments, random);
+            self.put_at_guard(&arguments, random);
         }
         if random.chance(1, 8) {
-            self.call_disturbed(arguments, random, comparison)?;
+            self.call_changed(arguments, random, comparison)?;
         }
         self.buffers = comparison.call(&arguments, &self.buffers)?;
         match arguments.function {
@@ -113,15 +113,15 @@ impl List {
         }
     }
 
-    /// New vectors of garbage, and often garbage in the unused storage.
-    fn scramble(&mut self, n: usize, random: &mut Random) {
+    /// New vectors, which hold anything, and often other contents in the unused storage.
+    fn renew(&mut self, n: usize, random: &mut Random) {
         let lengths = vector_lengths(n, random);
         for (name, length) in VECTORS.into_iter().zip(lengths) {
             self.buffers[name] = Buffer::new(length, random);
         }
         if random.chance(1, 3) {
             let stride = self.stride();
-            scramble_unused(&mut self.buffers, stride, self.n, random);
+            fill_unused(&mut self.buffers, stride, self.n, random);
         }
     }
 
@@ -133,24 +133,24 @@ impl List {
         }
     }
 
-    fn aim(&mut self, arguments: &Arguments, random: &mut Random) {
+    fn put_at_guard(&mut self, arguments: &Arguments, random: &mut Random) {
         match (arguments.function, arguments.mode) {
-            (Function::LUmod, 1 | 3) => aim_at_forward(arguments, &mut self.buffers, random),
-            (Function::LUmod, 2) => aim_at_backward(arguments, &mut self.buffers, random),
+            (Function::LUmod, 1 | 3) => put_at_forward(arguments, &mut self.buffers, random),
+            (Function::LUmod, 2) => put_at_backward(arguments, &mut self.buffers, random),
             _ => {}
         }
     }
 
     /// A call around the limits, on a copy: most are refused, and one that is
     /// not must not lead the list away.
-    fn call_disturbed(
+    fn call_changed(
         &self,
         mut arguments: Arguments,
         random: &mut Random,
         comparison: &mut Comparison,
     ) -> Result<(), End> {
         let mut buffers = self.buffers.clone();
-        disturb(&mut arguments, &mut buffers, random);
+        change(&mut arguments, &mut buffers, random);
         comparison.call(&arguments, &buffers)?;
         Ok(())
     }

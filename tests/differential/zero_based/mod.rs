@@ -1,6 +1,7 @@
 //! The zero-based calls LUmod, Lprod and Usolve.
 
 mod arguments;
+mod bench_rows;
 mod comparison;
 mod counts;
 mod expected;
@@ -16,8 +17,14 @@ use crate::random::Random;
 use comparison::Comparison;
 pub use faults::FAULTS;
 
-/// Lists and single calls by turns, until the run ends.
+/// The bench table, then lists and single calls by turns, until the run ends. With a
+/// fault to plant without the table.
 pub fn run(wanted: u64, seed: u64, kind: usize) -> End {
+    if kind == 0 {
+        if let Err(end) = play_bench_table(seed) {
+            return end;
+        }
+    }
     let random = &mut Random::new(seed);
     let planter = Planter::of_kind(&FAULTS, kind, seed);
     let mut comparison = Comparison::new(Calls::new(wanted, seed), planter);
@@ -33,4 +40,12 @@ pub fn run(wanted: u64, seed: u64, kind: usize) -> End {
         println!("{}; 0 differences", comparison.counts);
     }
     end
+}
+
+fn play_bench_table(seed: u64) -> Result<(), End> {
+    let planter = Planter::of_kind(&FAULTS, 0, seed);
+    let mut comparison = Comparison::new(Calls::new(u64::MAX, seed), planter);
+    let rows = bench_rows::play(&mut Random::new(seed), &mut comparison)?;
+    println!("{rows} rows of the bench table by zero-based calls; 0 differences");
+    Ok(())
 }

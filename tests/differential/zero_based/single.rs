@@ -2,12 +2,12 @@
 
 use super::arguments::{Arguments, Function};
 use super::comparison::Comparison;
-use super::limits::{capacity, disturb, lengths};
-use crate::aim;
+use super::limits::{capacity, change, lengths};
 use crate::buffers::{Buffers, Name};
 use crate::calls::End;
 use crate::data::{Profile, ZERO_BASED};
 use crate::factors::{fill_factors, fill_vector};
+use crate::guards;
 use crate::places::{diagonal, l_column, u_column};
 use crate::random::Random;
 
@@ -19,10 +19,10 @@ pub fn call_once(random: &mut Random, comparison: &mut Comparison) -> Result<(),
     fill_factors(&mut buffers, stride, n, profile, random);
     fill_data(&arguments, &mut buffers, profile, random);
     if arguments.function == Function::LUmod && random.chance(1, 2) {
-        aim_at_guard(&arguments, &mut buffers, random);
+        put_at_guard(&arguments, &mut buffers, random);
     }
     if random.chance(1, 3) {
-        disturb(&mut arguments, &mut buffers, random);
+        change(&mut arguments, &mut buffers, random);
     }
     comparison.call(&arguments, &buffers)?;
     Ok(())
@@ -49,7 +49,7 @@ fn agreeing(random: &mut Random) -> Arguments {
     }
 }
 
-/// The vectors that the call reads. The others stay garbage.
+/// The vectors that the call reads. The others hold anything.
 pub fn fill_data(
     arguments: &Arguments,
     buffers: &mut Buffers,
@@ -69,19 +69,19 @@ pub fn fill_data(
     }
 }
 
-fn aim_at_guard(arguments: &Arguments, buffers: &mut Buffers, random: &mut Random) {
+fn put_at_guard(arguments: &Arguments, buffers: &mut Buffers, random: &mut Random) {
     let (n, stride) = (arguments.n as usize, arguments.stride());
     match (arguments.mode, random.below(2)) {
-        (1 | 3, 0) => aim_at_forward(arguments, buffers, random),
-        (1, _) => aim_at_pivot(arguments, buffers, random),
-        (2, _) => aim_at_backward(arguments, buffers, random),
+        (1 | 3, 0) => put_at_forward(arguments, buffers, random),
+        (1, _) => put_at_pivot(arguments, buffers, random),
+        (2, _) => put_at_backward(arguments, buffers, random),
         (4, 0) => {
             let u = buffers[Name::U].slice_mut();
-            aim::at_column(u, u_column(stride, n - 1), ZERO_BASED, random);
+            guards::at_column(u, u_column(stride, n - 1), ZERO_BASED, random);
         }
         _ => {
             let places = l_column(stride, n, arguments.krow as usize);
-            aim::at_column(buffers[Name::L].slice_mut(), places, ZERO_BASED, random);
+            guards::at_column(buffers[Name::L].slice_mut(), places, ZERO_BASED, random);
         }
     }
 }
@@ -91,23 +91,23 @@ fn forward_rows(arguments: &Arguments) -> usize {
     (arguments.n as usize - 1).max(1)
 }
 
-pub fn aim_at_forward(arguments: &Arguments, buffers: &mut Buffers, random: &mut Random) {
+pub fn put_at_forward(arguments: &Arguments, buffers: &mut Buffers, random: &mut Random) {
     let rows = forward_rows(arguments);
     let u = buffers[Name::U].slice();
     let pivots: Vec<_> = diagonal(arguments.stride(), rows)
         .map(|place| u[place])
         .collect();
     let y = &mut buffers[Name::Y].slice_mut()[..rows];
-    aim::at_forward(y, &pivots, ZERO_BASED, random);
+    guards::at_forward(y, &pivots, ZERO_BASED, random);
 }
 
-fn aim_at_pivot(arguments: &Arguments, buffers: &mut Buffers, random: &mut Random) {
+fn put_at_pivot(arguments: &Arguments, buffers: &mut Buffers, random: &mut Random) {
     let [_, u, y, ..] = buffers.slices_mut();
     let y = &mut y[..forward_rows(arguments)];
-    aim::at_pivot(y, u, arguments.stride(), ZERO_BASED, random);
+    guards::at_pivot(y, u, arguments.stride(), ZERO_BASED, random);
 }
 
-pub fn aim_at_backward(arguments: &Arguments, buffers: &mut Buffers, random: &mut Random) {
+pub fn put_at_backward(arguments: &Arguments, buffers: &mut Buffers, random: &mut Random) {
     let values = &mut buffers[Name::Z].slice_mut()[..arguments.n as usize];
-    aim::at_backward(values, ZERO_BASED, random);
+    guards::at_backward(values, ZERO_BASED, random);
 }

@@ -10,7 +10,7 @@ use lib.Ieee.{binary64}
 use lib.ListN.{length}
 use Rattle.numbers.specs.NumberForm.{ieee}
 use Rattle.host_numbers.specs.Numbers.{sizeOf, strideOf}
-use Rattle.zero_based.specs.Refusals.{productLacksRoom}
+use Rattle.zero_based_tests.specs.Refusals.{productLacksRoom}
 use Rattle.lumod_c.proofs.Tests.{product-room, outcome-11, outcome-12, outcome-0}
 use Rattle.lumod_c.proofs.Modes.{plain-product, transposed-product}
 use Rattle.lumod_c.proofs.Lprod.Statement.{statement}

@@ -10,7 +10,7 @@ use lib.Ieee.{binary64}
 use lib.ListN.{length}
 use Rattle.numbers.specs.NumberForm.{ieee}
 use Rattle.host_numbers.specs.Numbers.{sizeOf, strideOf}
-use Rattle.zero_based.specs.Refusals.{solveLacksRoom}
+use Rattle.zero_based_tests.specs.Refusals.{solveLacksRoom}
 use Rattle.lumod_c.proofs.Tests.{solve-room, outcome-11, outcome-12, outcome-0}
 use Rattle.lumod_c.proofs.Modes.{plain-solve, transposed-solve}
 use Rattle.lumod_c.proofs.Usolve.Statement.{statement}

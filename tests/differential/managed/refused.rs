@@ -28,17 +28,22 @@ const LENDABLE: usize = 200;
 
 /// Makes the causes hold, as far as they can hold at once, and no others but
 /// those that come with them.
-pub fn spoil(causes: &[Cause], call: &mut Call, instance: &mut Instance, random: &mut Random) {
-    spoil_numbers(causes, instance, random);
+pub fn make_refused(
+    causes: &[Cause],
+    call: &mut Call,
+    instance: &mut Instance,
+    random: &mut Random,
+) {
+    set_numbers(causes, instance, random);
     if instance.n <= LENDABLE {
         fit_lengths(call.function, instance, random);
     }
     for &cause in causes.iter().rev() {
-        spoil_other(cause, call, instance, random);
+        set_other(cause, call, instance, random);
     }
 }
 
-fn spoil_numbers(causes: &[Cause], instance: &mut Instance, random: &mut Random) {
+fn set_numbers(causes: &[Cause], instance: &mut Instance, random: &mut Random) {
     let Instance { n, c, .. } = instance;
     let short = causes.contains(&Cause::ShortL) && causes.contains(&Cause::ShortU);
     if causes.contains(&Cause::Overflow) {
@@ -78,7 +83,7 @@ fn fit_lengths(function: Function, instance: &mut Instance, random: &mut Random)
     }
 }
 
-fn spoil_other(cause: Cause, call: &mut Call, instance: &mut Instance, random: &mut Random) {
+fn set_other(cause: Cause, call: &mut Call, instance: &mut Instance, random: &mut Random) {
     let Instance { n, c, buffers, .. } = instance;
     let (l, u) = lengths(*c);
     match cause {
@@ -104,7 +109,7 @@ fn spoil_other(cause: Cause, call: &mut Call, instance: &mut Instance, random: &
             buffers[Name::Z].set_len(length, random);
             buffers[Name::W].set_len(length, random);
         }
-        Cause::Diagonal => spoil_diagonal(instance, random),
+        Cause::Diagonal => set_bad_diagonal(instance, random),
     }
 }
 
@@ -130,7 +135,7 @@ pub fn other_length(length: usize, random: &mut Random) -> usize {
 }
 
 /// One active diagonal entry of U, or two, that a solve is refused for.
-fn spoil_diagonal(instance: &mut Instance, random: &mut Random) {
+fn set_bad_diagonal(instance: &mut Instance, random: &mut Random) {
     let Instance { n, c, buffers, .. } = instance;
     let u = buffers[Name::U].slice_mut();
     let places: Vec<_> = diagonal(*c, *n.min(c))

@@ -37,12 +37,12 @@ fn at_pair(vector: &mut [f64], pivot: Option<f64>, tolerances: Tolerances, rando
 
 /// Beside E * |value|, or beside a T where a pair step clears its pivot.
 fn guard(value: f64, tolerances: Tolerances, random: &mut Random) -> f64 {
-    let aimed = if value.is_nan() || random.chance(1, 6) {
+    let limit = if value.is_nan() || random.chance(1, 6) {
         tolerances.t
     } else {
         tolerances.e * value.abs()
     };
-    near(aimed, random)
+    near(limit, random)
 }
 
 /// A pivot of U beside T, with the entry of y that Forward meets there no larger.

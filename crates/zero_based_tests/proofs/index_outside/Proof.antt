@@ -6,8 +6,8 @@ use borrow.Author.Tests.{eq-eqb, ne-eqb}
 use mir.Facts.{toZ-ofZ}
 use lib.IntN.{ℤ}
 use Rattle.host_numbers.specs.Numbers.{outside}
-use Rattle.zero_based.proofs.index_outside.Statement.{statement}
-use Rattle.zero_based.proofs.index_outside.Tie as tie
+use Rattle.zero_based_tests.proofs.index_outside.Statement.{statement}
+use Rattle.zero_based_tests.proofs.index_outside.Tie as tie
 
 outside-requires : tie.Need-outside-requires
 outside-requires c κs = search needs

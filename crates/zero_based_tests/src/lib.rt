@@ -1,7 +1,7 @@
 // What the zero-based calls refuse.
 ghost use mathlib.Core.Path.{_≡_};
 ghost use Prim.Native.Nat.{_^_, _<_};
-ghost use Rattle.zero_based.specs.Refusals.{indexOutside, passedOver, updateLacksRoom, productLacksRoom, solveLacksRoom};
+ghost use Rattle.zero_based_tests.specs.Refusals.{indexOutside, passedOver, updateLacksRoom, productLacksRoom, solveLacksRoom};
 use host_numbers::outside;
 
 // Whether a mode is `own` or 4, the modes that use the index, and the index is outside.

@@ -3,10 +3,10 @@ use borrow.Author.Needs.{needs}
 use Prim.Native.Nat.{_-_}
 use native.Mathlib.Omega.{arith}
 use borrow.Author.Tests.{lt-ltb, le-ltb}
-use Rattle.zero_based.specs.Refusals.{updateLacksRoom}
+use Rattle.zero_based_tests.specs.Refusals.{updateLacksRoom}
 use Rattle.storage.proofs.Lengths.{length-fits}
-use Rattle.zero_based.proofs.update_lacks_room.Statement.{statement}
-use Rattle.zero_based.proofs.update_lacks_room.Tie as tie
+use Rattle.zero_based_tests.proofs.update_lacks_room.Statement.{statement}
+use Rattle.zero_based_tests.proofs.update_lacks_room.Tie as tie
 
 returns : tie.Need-returns
 unfolding updateLacksRoom
