@@ -14,7 +14,7 @@ use Rattle.machine.specs.Tables.{Vector, Table, Work, stateOf, put}
 use Rattle.machine.specs.Products.{entry}
 use Rattle.machine.specs.Forward.{forward}
 use Rattle.machine.specs.Backward.{trim, backward}
-use Rattle.machine.specs.Updates.{putColumn, putSelected, lastColumnRead, restoredFrom, restored, columnDropped}
+use Rattle.machine.specs.Updates.{withUnitRow, putColumn, putSelected, lastColumnRead, restoredFrom, restored, columnDropped}
 use Rattle.machine.specs.Agreement.{Agree, AgreeWithin}
 use Rattle.machine.specs.Counts.{forwardCount, backwardCount, restoredFromCount, restoredCount, columnDroppedCount}
 use Rattle.machine.proofs.Choice.{neqb→ne, pick, within-from, within-less, within-trans, within-state}
@@ -31,7 +31,7 @@ use Rattle.storage.proofs.Frames.{frame-all, frame-then, frame-last, frame-u, f
 use Rattle.storage.proofs.Places.{lIndex-injective, uIndex-injective}
 use Rattle.ranges.specs.Written.{from, Written}
 use Rattle.buffers.specs.Performed.{workOf, Performed}
-use Rattle.stages.specs.Stages.{withUnitRow, LUpdated}
+use Rattle.stages.specs.Stages.{LUpdated}
 
 module _ (N : NumberForm) where
   open NumberForm N using (Value, zero as 𝟎, one as 𝟏, absent)
