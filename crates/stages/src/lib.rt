@@ -45,7 +45,8 @@ pub fn restore(
     w: &mut [f64],
     numerics: Numerics,
 ) -> usize
-    requires { ⌜ Room (ieee binary64) stride n (now l) (now u) × ((n ≤ length (now y)) × ((n ≤ length (now w)) × ((column < last) × ((last < n) × ((last ≤ columns) × (columns ≤ n)))))) ⌝ }
+    requires { ⌜ Room (ieee binary64) stride n (now l) (now u) × ((n ≤ length (now y)) × ((n ≤ length (now w)) × ((column < last) × ((last < n) × ((last ≤ columns)
+        × (columns ≤ n)))))) ⌝ }
     ensures { λ r. ⌜ Performed (ieee binary64) stride n column columns 0 (restored (ieee binary64) (numerics .epsilon) (numerics .tiny) column last columns)
         (now (l .entry)) (now (u .entry)) (now (y .entry)) (now (w .entry)) (now (l .exit)) (now (u .exit)) (now (y .exit)) (now (w .exit))
         × (r ≡ restoredCount (ieee binary64) (numerics .epsilon) (numerics .tiny) column last columns
