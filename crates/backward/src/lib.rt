@@ -40,7 +40,8 @@ pub fn backward_rows(
     v: &mut [f64],
     numerics: Numerics,
 ) -> usize
-    requires { ⌜ Room (ieee binary64) stride n (now l) (now u) × ((columns ≤ length (now y)) × ((n ≤ length (now v)) × ((first ≤ selected) × ((selected < n) × ((selected ≤ columns) × (columns ≤ n)))))) ⌝ }
+    requires { ⌜ Room (ieee binary64) stride n (now l) (now u) × ((columns ≤ length (now y)) × ((n ≤ length (now v)) × ((first ≤ selected) × ((selected < n)
+        × ((selected ≤ columns) × (columns ≤ n)))))) ⌝ }
     ensures { λ r. ⌜ Performed (ieee binary64) stride n first columns n (backwardRows (ieee binary64) (numerics .epsilon) (numerics .tiny) selected columns (selected - first))
         (now (l .entry)) (now (u .entry)) (now (y .entry)) (now (v .entry)) (now (l .exit)) (now (u .exit)) (now (y .exit)) (now (v .exit))
         × (r ≡ backwardRowsCount (ieee binary64) (numerics .epsilon) (numerics .tiny) selected columns (selected - first)
@@ -69,7 +70,8 @@ pub fn backward(
     v: &mut [f64],
     numerics: Numerics,
 ) -> usize
-    requires { ⌜ Room (ieee binary64) stride n (now l) (now u) × ((columns ≤ length (now y)) × ((n ≤ length (now v)) × ((first ≤ selected) × ((selected < n) × ((selected ≤ columns) × (columns ≤ n)))))) ⌝ }
+    requires { ⌜ Room (ieee binary64) stride n (now l) (now u) × ((columns ≤ length (now y)) × ((n ≤ length (now v)) × ((first ≤ selected) × ((selected < n)
+        × ((selected ≤ columns) × (columns ≤ n)))))) ⌝ }
     ensures { λ r. ⌜ Performed (ieee binary64) stride n first columns n (Backward.backward (ieee binary64) (numerics .epsilon) (numerics .tiny) first selected columns)
         (now (l .entry)) (now (u .entry)) (now (y .entry)) (now (v .entry)) (now (l .exit)) (now (u .exit)) (now (y .exit)) (now (v .exit))
         × (r ≡ backwardCount (ieee binary64) (numerics .epsilon) (numerics .tiny) first selected columns

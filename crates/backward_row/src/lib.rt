@@ -28,7 +28,8 @@ pub fn backward_row(
     v: &mut [f64],
     numerics: Numerics,
 ) -> usize
-    requires { ⌜ Room (ieee binary64) stride n (now l) (now u) × ((columns ≤ length (now y)) × ((n ≤ length (now v)) × ((row < selected) × ((selected < n) × ((selected ≤ columns) × (columns ≤ n)))))) ⌝ }
+    requires { ⌜ Room (ieee binary64) stride n (now l) (now u) × ((columns ≤ length (now y)) × ((n ≤ length (now v)) × ((row < selected) × ((selected < n)
+        × ((selected ≤ columns) × (columns ≤ n)))))) ⌝ }
     ensures { λ r. ⌜ Performed (ieee binary64) stride n row columns n (backwardRow (ieee binary64) (numerics .epsilon) (numerics .tiny) selected columns row)
         (now (l .entry)) (now (u .entry)) (now (y .entry)) (now (v .entry)) (now (l .exit)) (now (u .exit)) (now (y .exit)) (now (v .exit))
         × (r ≡ backwardRowCount (ieee binary64) (numerics .epsilon) selected row (workOf (ieee binary64) stride (now (l .entry)) (now (u .entry)) (now (y .entry)) (now (v .entry)))) ⌝ }

@@ -17,7 +17,8 @@ module _ (N : NumberForm) where
   abbrev pub workOf : ℕ → List Value → List Value → List Value → List Value → Work Value
   workOf c l u y v = record { L = viewL N c l; U = viewU N c u; y = entry N y; v = entry N v }
 
-  -- storage of stride c that has room for factors of dimension n
+  -- Storage of stride c that has room for factors of dimension n. The stride is the capacity of the managed interface, and in the zero-based interface
+  -- the larger of maxmod and 1.
   pub record Room (c n : ℕ) (l u : List Value) : Type 0 where
     pub stride : c < 2 ^ 32
     pub dimension : n ≤ c

@@ -14,7 +14,7 @@ use ranges::copy;
 // It answers how many pair steps it made.
 pub fn push(
     n: usize,
-    capacity: usize,
+    stride: usize,
     l: &mut [f64],
     u: &mut [f64],
     y: &mut [f64],
@@ -23,22 +23,23 @@ pub fn push(
     column: &[f64],
     diagonal: f64,
 ) -> usize
-    requires { ⌜ Room (ieee binary64) capacity (n + 1) (now l) (now u) × ((n + 1 ≤ length (now y)) × ((n ≤ length (now w)) × ((n ≤ length (now row)) × (n ≤ length (now column))))) ⌝ }
-    ensures { λ r. ⌜ CarriedOut (ieee binary64) (managedEpsilon binary64) (managedTiny binary64) capacity n (n + 1)
+    requires { ⌜ Room (ieee binary64) stride (n + 1) (now l) (now u) × ((n + 1 ≤ length (now y)) × ((n ≤ length (now w)) × ((n ≤ length (now row))
+        × (n ≤ length (now column))))) ⌝ }
+    ensures { λ r. ⌜ CarriedOut (ieee binary64) (managedEpsilon binary64) (managedTiny binary64) stride n (n + 1)
         (calls.push (now (row .entry)) (now (column .entry)) diagonal)
         (now (l .entry)) (now (u .entry)) (now (y .entry)) (now (column .entry)) (now (w .entry))
         (now (l .exit)) (now (u .exit)) (now (y .exit)) (now (column .entry)) (now (w .exit)) r ⌝ }
 {
     copy(y, 0, row, 0, n);
     y[n] = diagonal;
-    update_push::push(n + 1, capacity, l, u, y, column, w, managed())
+    update_push::push(n + 1, stride, l, u, y, column, w, managed())
 }
 
 // Replaces a row of the matrix. The values go to y. It answers how many pair steps it made.
 pub fn replace_row(
     row: usize,
     n: usize,
-    capacity: usize,
+    stride: usize,
     l: &mut [f64],
     u: &mut [f64],
     y: &mut [f64],
@@ -46,11 +47,12 @@ pub fn replace_row(
     w: &mut [f64],
     values: &[f64],
 ) -> usize
-    requires { ⌜ Room (ieee binary64) capacity n (now l) (now u) × ((n ≤ length (now y)) × ((n ≤ length (now z)) × ((n ≤ length (now w)) × ((n ≤ length (now values)) × (row < n))))) ⌝ }
-    ensures { λ r. ⌜ CarriedOut (ieee binary64) (managedEpsilon binary64) (managedTiny binary64) capacity n n (calls.replaceRow row (now (values .entry)))
+    requires { ⌜ Room (ieee binary64) stride n (now l) (now u) × ((n ≤ length (now y)) × ((n ≤ length (now z)) × ((n ≤ length (now w)) × ((n ≤ length (now values))
+        × (row < n))))) ⌝ }
+    ensures { λ r. ⌜ CarriedOut (ieee binary64) (managedEpsilon binary64) (managedTiny binary64) stride n n (calls.replaceRow row (now (values .entry)))
         (now (l .entry)) (now (u .entry)) (now (y .entry)) (now (z .entry)) (now (w .entry))
         (now (l .exit)) (now (u .exit)) (now (y .exit)) (now (z .exit)) (now (w .exit)) r ⌝ }
 {
     copy(y, 0, values, 0, n);
-    update_row::replace_row(row, n, capacity, l, u, y, z, w, managed())
+    update_row::replace_row(row, n, stride, l, u, y, z, w, managed())
 }

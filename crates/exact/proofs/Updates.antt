@@ -57,7 +57,7 @@ module _ {N : NumberForm} (Λ : ExactLaws N) where
         Σ-unit ring (suc n) n (λ j. val (S .L n j)) x (omega arith) (rw (eq-eqb n n refl) val-one) (λ j hj e. rw (eq-eqb n n refl, ne-eqb j n e) val-zero)
 
     border-image : (x : Vector F) (i : ℕ) → i < n → image ring (suc n) (values Λ (S .L)) x i ≡ image ring n (values Λ L) x i
-    unfolding S bordered Σ
+    unfolding S bordered columnCleared Σ
     border-image x i hi =
         ap₂ _⊕_ (Σ-same ring n _ _ (λ j hj. rw (ne-eqb i n (omega arith), ne-eqb j n (omega arith), values)))
         (rw (ne-eqb i n (omega arith), eq-eqb n n refl, val-zero, values) (zero-mul ring (x n)))

@@ -18,7 +18,7 @@ use Rattle.machine.proofs.Forward.{forward-same}
 use Rattle.machine.proofs.Backward.{trim-same, trim-le, trim-ge, backward-same}
 
 module _ (N : NumberForm) (E T : N .Value) where
-  open NumberForm N using (Value, zero as 𝟎, one as 𝟏)
+  open NumberForm N using (Value, one as 𝟏)
 
   -- ---- a column put in place and the triangle restored: replace column, and the first half of remove
 
@@ -70,11 +70,11 @@ module _ (N : NumberForm) (E T : N .Value) where
   module _ (n : ℕ) (L U L′ U′ : Table Value) (hL : (i j : ℕ) → i < n → j < n → L i j ≡ L′ i j) (hU : (i j : ℕ) → i ≤ j → j < n → U i j ≡ U′ i j) where
     pub bordered-same : (row row′ column column′ : List Value) (d : Value) → ((j : ℕ) → j < n → entry N row j ≡ entry N row′ j) → ((j : ℕ) → j < n → entry N column j ≡ entry N column′ j)
         → AgreeWithin (suc n) 0 (suc n) (suc n) (bordered N n L U row column d) (bordered N n L′ U′ row′ column′ d)
-    unfolding bordered
+    unfolding bordered columnCleared
     bordered-same row row′ column column′ d er ec = record {
       L = λ i j hi hj. choose (eqb i n) (λ _. refl) (λ a. choose (eqb j n) (λ _. refl) (λ b. hL i j (omega (arith, neqb→ne i n a)) (omega (arith, neqb→ne j n b))));
       U = λ i j hij hj. choose (eqb j n)
-          (λ _. choose (eqb i n) (λ _. refl) (λ a. product-same N n L L′ _ _ hL ec i (omega (arith, neqb→ne i n a))))
+          (λ _. choose (eqb i n) (λ _. refl) (λ a. product-same N n L L′ _ _ hL (search) i (omega (arith, neqb→ne i n a))))
           (λ b. hU i j hij (omega (arith, neqb→ne j n b)));
       y = λ j _ hj. choose (eqb j n) (λ _. refl) (λ b. er j (omega (arith, neqb→ne j n b)));
       v = λ j _. refl;

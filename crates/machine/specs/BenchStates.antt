@@ -17,13 +17,18 @@ use Rattle.machine.specs.Solves.{substituted, backSubstitution, forwardS
 use Rattle.machine.specs.Calls.{Call, push, Result}
 use Rattle.machine.specs.Machine.{refusal, accepted, stepUnder, step}
 
--- a call under the managed tolerances. Who unfolds `call` unfolds the whole machine
-unfoldable pub call : State Float → Call Float → Result Float
-unfolding step stepUnder accepted refusal diagonals solution solutionTransposed substituted backSubstitution forwardSubstitution
+-- What a call leaves under the managed tolerances where nothing is refused. Who unfolds it unfolds the whole machine but its refusals.
+unfoldable pub carriedOut : State Float → Call Float → Result Float
+unfolding accepted solution solutionTransposed substituted backSubstitution forwardSubstitution
     pushed bordered columnReplaced putColumn restored restoredFrom putSelected rowReplaced rowReplacedFrom columnCleared unitRow removed columnDropped columnCopied
     forward copyDenseToRow forwardRows forwardRow forwardActs forwardTransform transformRows
     backward copyRowToDense negligible trim backwardRows backwardRow clearDense backwardSkips backwardTransform
     product productTransposed sum pairStep first second managedEpsilon updateTiny nearest absolute add sub mul div le lt eq neg ofBits
+carriedOut = accepted (ieee binary64) (managedEpsilon binary64) (managedTiny binary64)
+
+-- a call under the managed tolerances
+unfoldable pub call : State Float → Call Float → Result Float
+unfolding carriedOut step stepUnder refusal diagonals
 call = step (ieee binary64) (managedEpsilon binary64) (managedTiny binary64)
 
 -- dimension 0: a NaN stands wherever no call has written

@@ -12,7 +12,7 @@ use Rattle.machine.specs.Forward.{forwardActs}
 use Rattle.machine.specs.Backward.{trim, backwardSkips}
 use Rattle.machine.specs.Calls.{Call, push, replaceRow, replaceColumn, remove, solve, solveTransposed, moved, refusedAt, Result}
 use Rattle.machine.specs.Machine.{step}
-use Rattle.machine.specs.BenchStates.{call, empty, single, P, Q, square, M, M′, identity}
+use Rattle.machine.specs.BenchStates.{carriedOut, call, empty, single, P, Q, square, M, M′, identity}
 
 -- the active entries, row by row
 pub record Factors : Type 0 where
@@ -103,13 +103,13 @@ pub record TrapTable : Type 0 where
   -- remove names the row and the column that it moved, each in its place
   removed-row : call P (remove 0 1) .answer ≡ moved (some 1) none
   removed-column : call P (remove 1 0) .answer ≡ moved none (some 1)
-  -- Forward's guard is no negation of Backward's: a NaN passes Forward untouched
-  forward-nan : factors (call (single (whole 2)) (push (nan ∷ []) (whole 6 ∷ []) (whole 1)) .after) ≡ record {
+  -- Forward's guard is no negation of Backward's: a NaN passes Forward untouched. Whether the call is refused is no part of these two lines
+  forward-nan : factors (carriedOut (single (whole 2)) (push (nan ∷ []) (whole 6 ∷ []) (whole 1)) .after) ≡ record {
     L = whole 1 ∷ whole 0 ∷ whole 0 ∷ whole 1 ∷ [];
     U = whole 2 ∷ whole 6 ∷ whole 1 ∷ [];
   }
   -- and Backward's is none of Forward's: a NaN is eliminated there
-  backward-nan : call (identity 3) (replaceColumn 0 (whole 1 ∷ nan ∷ whole 1 ∷ [])) .after .U 1 1 ≡ nan
+  backward-nan : carriedOut (identity 3) (replaceColumn 0 (whole 1 ∷ nan ∷ whole 1 ∷ [])) .after .U 1 1 ≡ nan
   -- at their limits: |y| = E × |U| passes Forward, |v| = E × |v(selected)| is skipped, and |v| = E is trimmed
   forward-limit : forwardActs (ieee binary64) (double 1 2) (whole 2) (whole 1) ≡ false
   backward-limit : backwardSkips (ieee binary64) (double 1 2) (whole 2) (whole 1) ≡ true

@@ -16,7 +16,7 @@ use Rattle.machine.specs.Backward.{copyRowToDense, trim, backwardSkips, 
 use Rattle.machine.specs.Updates.{putColumn, putSelected, bordered, columnProduct, lastColumnRead, columnTaken, columnMoved, unitRow, columnDropped}
 use Rattle.machine.specs.Calls.{Call, push, replaceRow, replaceColumn, remove, solve, solveTransposed, Answer}
 use Rattle.machine.specs.Machine.{refusal}
-use Rattle.machine.specs.BenchStates.{call, empty, single, P, square, M, M′, identity}
+use Rattle.machine.specs.BenchStates.{carriedOut, call, empty, single, P, square, M, M′, identity}
 
 module _ (N : NumberForm) (E : N .Value) where
   open NumberForm N using (Value)
@@ -136,10 +136,15 @@ countMost n (solveTransposed b) = 0
 
 -- ---- computed
 
--- the pair steps of a call under the managed tolerances
-unfoldable pub pairSteps : State Float → Call Float → ℕ
-unfolding call count countUnder acceptedCount pushedCount columnReplacedCount rowReplacedCount rowReplacedFromCount removedCount columnDroppedCount restoredCount restoredFromCount
+-- the pair steps that a call makes under the managed tolerances where nothing is refused
+unfoldable pub carriedOutSteps : State Float → Call Float → ℕ
+unfolding carriedOut acceptedCount pushedCount columnReplacedCount rowReplacedCount rowReplacedFromCount removedCount columnDroppedCount restoredCount restoredFromCount
     forwardCount forwardRowsCount forwardRowCount backwardCount backwardRowsCount backwardRowCount
+carriedOutSteps = acceptedCount (ieee binary64) (managedEpsilon binary64) (managedTiny binary64)
+
+-- the pair steps of a call
+unfoldable pub pairSteps : State Float → Call Float → ℕ
+unfolding call carriedOutSteps count countUnder
 pairSteps = count (ieee binary64) (managedEpsilon binary64) (managedTiny binary64)
 
 -- a call that makes as many as the sharper limit allows
@@ -164,9 +169,9 @@ pub record CountTable : Type 0 where
   M-remove-last-row : pairSteps M (remove 2 1) ≡ 1
   -- Forward passes an entry that is zero, and a NaN; Backward skips row 2 of four, and not a NaN
   row-passed : pairSteps (single (whole 2)) (push (whole 0 ∷ []) (whole 6 ∷ []) (whole 1)) ≡ 0
-  forward-nan : pairSteps (single (whole 2)) (push (nan ∷ []) (whole 6 ∷ []) (whole 1)) ≡ 0
+  forward-nan : carriedOutSteps (single (whole 2)) (push (nan ∷ []) (whole 6 ∷ []) (whole 1)) ≡ 0
   row-skipped : pairSteps (identity 4) (replaceColumn 0 (whole 1 ∷ whole 1 ∷ whole 0 ∷ whole 1 ∷ [])) ≡ 2
-  backward-nan : pairSteps (identity 3) (replaceColumn 0 (whole 1 ∷ nan ∷ whole 1 ∷ [])) ≡ 1
+  backward-nan : carriedOutSteps (identity 3) (replaceColumn 0 (whole 1 ∷ nan ∷ whole 1 ∷ [])) ≡ 1
   -- a pair step counts whether or not its multiplier is zero: an exchange with a zero, in Forward and in Backward, and two numbers within T
   zero-exchanged : pairSteps (single (whole 0)) (push (whole 1 ∷ []) (whole 1 ∷ []) (whole 1)) ≡ 1
   zero-exchanged-backward : pairSteps (identity 2) (remove 0 1) ≡ 1
@@ -187,7 +192,7 @@ pub record CountTable : Type 0 where
   most-removed-last : Most M′ (remove 0 2)
 
 pub countTable : CountTable
-unfolding call pairSteps Most empty single P square M M′ identity
+unfolding call carriedOutSteps pairSteps Most empty single P square M M′ identity
 countTable = record {
   first-push = refl;
   P-is = refl;

@@ -27,19 +27,23 @@ module _ {A : Type 0} where
 module _ (N : NumberForm) where
   open NumberForm N using (Value, zero as 𝟎, one as 𝟏)
 
-  -- L's last row and column become 0 with 1 in the corner. U's last column takes the L product of column over the old n; Forward is to set its corner.
-  -- y is row with d appended.
-  unfoldable pub bordered : ℕ → Table Value → Table Value → List Value → List Value → Value → Work Value
-  bordered n L U row column d = record {
-    L = λ i j. cond (eqb i n) (cond (eqb j n) 𝟏 𝟎) (cond (eqb j n) 𝟎 (L i j));
-    U = λ i j. cond (eqb j n) (cond (eqb i n) 𝟎 (product N n L (entry N column) i)) (U i j);
-    y = put n d (entry N row);
-    v = unset N;
-  }
+  -- row s of a table becomes 0 with 1 at r
+  abbrev pub withUnitRow : ℕ → ℕ → Table Value → Table Value
+  withUnitRow s r L i j = cond (eqb i s) (cond (eqb j r) 𝟏 𝟎) (L i j)
 
   -- L's column r becomes 0
   unfoldable pub columnCleared : ℕ → Table Value → Table Value
   columnCleared r L i j = cond (eqb j r) 𝟎 (L i j)
+
+  -- L's last row and column become 0 with 1 in the corner. U's last column takes the L product of column over the old n; Forward is to set its corner.
+  -- y is row with d appended.
+  unfoldable pub bordered : ℕ → Table Value → Table Value → List Value → List Value → Value → Work Value
+  bordered n L U row column d = record {
+    L = withUnitRow n n (columnCleared n L);
+    U = λ i j. cond (eqb j n) (cond (eqb i n) 𝟎 (product N n L (entry N column) i)) (U i j);
+    y = put n d (entry N row);
+    v = unset N;
+  }
 
   -- w is the L product of the values
   abbrev pub columnProduct : ℕ → Table Value → Table Value → List Value → Work Value
@@ -59,7 +63,7 @@ module _ (N : NumberForm) where
 
   -- L's row s becomes 0 with 1 at r, and y takes the values
   unfoldable pub unitRow : ℕ → ℕ → List Value → Work Value → Work Value
-  unitRow s r row S = record { L = λ i j. cond (eqb i s) (cond (eqb j r) 𝟏 𝟎) (S .L i j); U = S .U; y = entry N row; v = S .v }
+  unitRow s r row S = record { L = withUnitRow s r (S .L); U = S .U; y = entry N row; v = S .v }
 
 module _ (N : NumberForm) (E T : N .Value) where
   open NumberForm N using (Value)

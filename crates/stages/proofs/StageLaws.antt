@@ -10,12 +10,12 @@ use lib.ListN.{length, set}
 use lib.Seq.{getD-set-same, getD-set-other}
 use borrow.Author.Tests.{lt-ltb, le-ltb}
 use Rattle.numbers.specs.NumberForm.{NumberForm}
-use Rattle.machine.specs.Tables.{Vector, Table, Work, stateOf, put}
+use Rattle.machine.specs.Tables.{Vector, Table, Work, stateOf}
 use Rattle.machine.specs.Products.{entry}
 use Rattle.machine.specs.Forward.{forward}
 use Rattle.machine.specs.Backward.{trim, backward}
-use Rattle.machine.specs.Updates.{putColumn, putSelected, lastColumnRead, restoredFrom, restored, columnDropped}
-use Rattle.machine.specs.Agreement.{Agree, AgreeWithin}
+use Rattle.machine.specs.Updates.{withUnitRow, putColumn, putSelected, lastColumnRead, restoredFrom, restored, columnDropped}
+use Rattle.machine.specs.Agreement.{AgreeWithin}
 use Rattle.machine.specs.Counts.{forwardCount, backwardCount, restoredFromCount, restoredCount, columnDroppedCount}
 use Rattle.machine.proofs.Choice.{neqb→ne, pick, within-from, within-less, within-trans, within-state}
 use Rattle.machine.proofs.Forward.{forward-same}
@@ -24,14 +24,14 @@ use Rattle.machine.proofs.Updates.{restored-same}
 use Rattle.machine.proofs.CountLimits.{forward-count-le, backward-count-le, column-dropped-count-le}
 use Rattle.machine.proofs.Counts.{forward-count-same, backward-count-same, restored-count-same}
 use Rattle.storage.specs.Places.{lIndex, uIndex, LPlace, UPlace}
-use Rattle.storage.specs.Views.{viewL, viewU, stateAt, Kept}
+use Rattle.storage.specs.Views.{viewL, viewU, Kept}
 use Rattle.storage.specs.Updated.{Updated}
 use Rattle.storage.proofs.Kept.{kept-set, kept-then, kept-more}
 use Rattle.storage.proofs.Frames.{frame-all, frame-then, frame-last, frame-u, frame-y, frame-w}
 use Rattle.storage.proofs.Places.{lIndex-injective, uIndex-injective}
 use Rattle.ranges.specs.Written.{from, Written}
 use Rattle.buffers.specs.Performed.{workOf, Performed}
-use Rattle.stages.specs.Stages.{withUnitRow, LUpdated}
+use Rattle.stages.specs.Stages.{LUpdated}
 
 module _ (N : NumberForm) where
   open NumberForm N using (Value, zero as 𝟎, one as 𝟏, absent)

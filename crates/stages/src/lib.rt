@@ -6,12 +6,12 @@ ghost use lib.ListN.{length};
 ghost use lib.Ieee.{binary64};
 ghost use Rattle.numbers.specs.NumberForm.{ieee};
 ghost use Rattle.machine.specs.Tables.{stateOf};
-ghost use Rattle.machine.specs.Updates.{restored, columnDropped};
+ghost use Rattle.machine.specs.Updates.{withUnitRow, restored, columnDropped};
 ghost use Rattle.machine.specs.Counts.{restoredCount, columnDroppedCount};
 ghost use Rattle.storage.specs.Views.{viewL, viewU};
 ghost use Rattle.storage.specs.Updated.{Updated};
 ghost use Rattle.buffers.specs.Performed.{workOf, Room, Performed};
-ghost use Rattle.stages.specs.Stages.{withUnitRow, LUpdated};
+ghost use Rattle.stages.specs.Stages.{LUpdated};
 use backward::backward;
 use backward::trim;
 use forward::forward;
@@ -45,7 +45,8 @@ pub fn restore(
     w: &mut [f64],
     numerics: Numerics,
 ) -> usize
-    requires { ⌜ Room (ieee binary64) stride n (now l) (now u) × ((n ≤ length (now y)) × ((n ≤ length (now w)) × ((column < last) × ((last < n) × ((last ≤ columns) × (columns ≤ n)))))) ⌝ }
+    requires { ⌜ Room (ieee binary64) stride n (now l) (now u) × ((n ≤ length (now y)) × ((n ≤ length (now w)) × ((column < last) × ((last < n) × ((last ≤ columns)
+        × (columns ≤ n)))))) ⌝ }
     ensures { λ r. ⌜ Performed (ieee binary64) stride n column columns 0 (restored (ieee binary64) (numerics .epsilon) (numerics .tiny) column last columns)
         (now (l .entry)) (now (u .entry)) (now (y .entry)) (now (w .entry)) (now (l .exit)) (now (u .exit)) (now (y .exit)) (now (w .exit))
         × (r ≡ restoredCount (ieee binary64) (numerics .epsilon) (numerics .tiny) column last columns

@@ -10,7 +10,7 @@ use Rattle.numbers.specs.NumberForm.{NumberForm}
 use Rattle.machine.specs.Tables.{stateOf}
 use Rattle.machine.specs.Products.{entry, product}
 use Rattle.machine.specs.Forward.{forward}
-use Rattle.machine.specs.Updates.{bordered, pushed}
+use Rattle.machine.specs.Updates.{withUnitRow, columnCleared, bordered, pushed}
 use Rattle.machine.specs.Calls.{push}
 use Rattle.machine.specs.Machine.{accepted}
 use Rattle.machine.specs.Agreement.{Agree, AgreeWithin}
@@ -23,7 +23,7 @@ use Rattle.storage.proofs.Kept.{kept-all, kept-set, kept-then, kept-more}
 use Rattle.storage.proofs.Places.{uIndex-injective}
 use Rattle.ranges.specs.Written.{Written}
 use Rattle.buffers.specs.Performed.{workOf, Performed}
-use Rattle.stages.specs.Stages.{withUnitRow, LUpdated}
+use Rattle.stages.specs.Stages.{LUpdated}
 use Rattle.stages.proofs.StageLaws.{l-column, l-column-kept, u-column-other, u-column-kept, forward-agrees, forward-counted}
 
 module _ (N : NumberForm) (E T : N .Value) where
@@ -47,7 +47,7 @@ module _ (N : NumberForm) (E T : N .Value) where
         ∙ u-column-other N c (n - 1) (n - 1) (omega arith) (omega arith) us i j hij (omega arith) (λ e. absurd (ne e)))
 
     border-agrees : AgreeWithin n 0 n 0 (workOf N c l₂ (set u₁ d 𝟎) y []) (bordered N (n - 1) (viewL N c l) (viewU N c u) y z (entry N y (n - 1)))
-    unfolding bordered
+    unfolding bordered columnCleared
     border-agrees = record {
       L = λ i j hi hj. unit .value i j hi hj
           ∙ choose (eqb i (n - 1)) (λ _. refl) (λ s. l-column N c (n - 1) (n - 1) (omega arith) cleared i j (omega (arith, neqb→ne i (n - 1) s)) (omega arith));

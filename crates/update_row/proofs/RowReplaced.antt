@@ -10,7 +10,7 @@ use Rattle.machine.specs.Tables.{Table}
 use Rattle.machine.specs.Products.{entry}
 use Rattle.machine.specs.Forward.{forward, forwardRows, copyDenseToRow}
 use Rattle.machine.specs.Backward.{trim, backward}
-use Rattle.machine.specs.Updates.{bordered, columnCleared, columnTaken, unitRow, pushed, rowReplacedFrom, rowReplaced}
+use Rattle.machine.specs.Updates.{withUnitRow, bordered, columnCleared, columnTaken, unitRow, pushed, rowReplacedFrom, rowReplaced}
 use Rattle.machine.specs.Calls.{replaceRow}
 use Rattle.machine.specs.Machine.{accepted}
 use Rattle.machine.specs.Agreement.{AgreeWithin}
@@ -24,7 +24,7 @@ use Rattle.storage.proofs.Kept.{kept-more}
 use Rattle.storage.proofs.Frames.{frame-then, frame-first, frame-middle, frame-last, frame-l, frame-w}
 use Rattle.ranges.specs.Written.{Written}
 use Rattle.buffers.specs.Performed.{workOf, Performed}
-use Rattle.stages.specs.Stages.{withUnitRow, LUpdated}
+use Rattle.stages.specs.Stages.{LUpdated}
 use Rattle.stages.proofs.StageLaws.{l-column, l-column-kept, forward-agrees, backward-agrees, forward-counted, backward-counted, forward-counted-le, backward-counted-le}
 
 module _ (N : NumberForm) (E T : N .Value) where
@@ -33,7 +33,7 @@ module _ (N : NumberForm) (E T : N .Value) where
   -- at dimension 1 the general case gives what document 01 says: as a first push
   module _ (L U : Table Value) (y : List Value) where
     single-l : (i j : ℕ) → i < 1 → j < 1 → rowReplacedFrom N E T 1 L U 0 y 0 .L i j ≡ pushed N E T 0 L U [] [] (entry N y 0) .L i j
-    unfolding rowReplacedFrom unitRow pushed bordered forward forwardRows copyDenseToRow
+    unfolding rowReplacedFrom unitRow pushed bordered columnCleared forward forwardRows copyDenseToRow
     single-l zero zero a b = refl
     single-l zero (suc j) a b = absurd (omega arith)
     single-l (suc i) j a b = absurd (omega arith)

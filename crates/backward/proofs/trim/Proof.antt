@@ -1,7 +1,7 @@
 -- `trim`: an entry a turn.
 use borrow.Author.Needs.{needs}
 use mathlib.Core.Path.{_≡_, refl, _∙_}
-use Prim.Native.Nat.{_-_, _≤_, _<_}
+use Prim.Native.Nat.{_≤_, _<_}
 use native.Mathlib.Omega.{arith}
 use lib.Ieee.{binary64}
 use Rattle.numbers.specs.NumberForm.{ieee}
@@ -35,13 +35,6 @@ sub-selected c = omega arith
 loop-less : tie.Need-loop-less Inv-loop μ-loop
 loop-less c = omega arith
 
-loop-again : tie.Need-loop-again Inv-loop μ-loop
-loop-again c =
-    let abs = let t : tie.After-abs Inv-loop μ-loop = search in t .abs in
-    let start : tie.Start Inv-loop μ-loop = search in
-    let loop = let t : tie.At-loop Inv-loop μ-loop = search in t .loop in
-    let h : start .args .first < loop .selected = omega arith in (omega arith, (omega arith, trim-more (ieee binary64) _ _ _ _ h (abs .ensures) (c .if1 .taken) ∙ loop .inv .1 .1))
-
 returns : tie.Need-returns Inv-loop μ-loop
 returns c =
     let abs = let t : tie.After-abs Inv-loop μ-loop = search in t .abs in
@@ -51,6 +44,13 @@ returns c =
 
 returns-2 : tie.Need-returns-2 Inv-loop μ-loop
 returns-2 c = (trim-at-start (ieee binary64) _ _ _ _ (omega arith) ∙ c .before .loop .inv .1 .1, (omega arith, omega arith))
+
+loop-again : tie.Need-loop-again Inv-loop μ-loop
+loop-again c =
+    let abs = let t : tie.After-abs Inv-loop μ-loop = search in t .abs in
+    let start : tie.Start Inv-loop μ-loop = search in
+    let loop = let t : tie.At-loop Inv-loop μ-loop = search in t .loop in
+    let h : start .args .first < loop .selected = omega arith in (omega arith, (omega arith, trim-more (ieee binary64) _ _ _ _ h (abs .ensures) (c .if1 .taken) ∙ loop .inv .1 .1))
 
 pub trim-spec : {M : Type 1} → statement M
 trim-spec =

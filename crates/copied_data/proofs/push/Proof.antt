@@ -67,7 +67,7 @@ returns c =
     let p = way m .start .pre .1 .0 in
     let k = way m .copied .copy .ensures .kept .long in
     let b = m .managed .ensures in
-    push-of-copy (ieee binary64) (managedEpsilon binary64) (managedTiny binary64) (a .n) (a .capacity)
+    push-of-copy (ieee binary64) (managedEpsilon binary64) (managedTiny binary64) (a .n) (a .stride)
     (now (a .row)) (now (a .column)) (a .diagonal) (way m .copied .copy .ensures) (omega (arith, p, k)) (rw (b .0, b .1) at (push .ensures))
 
 pub push-spec : {M : Type 1} → statement M

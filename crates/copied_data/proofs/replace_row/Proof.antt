@@ -48,7 +48,7 @@ returns c =
     let a = way m .start .args in
     let p = way m .start .pre in
     let b = m .managed .ensures in
-    row-of-copy (ieee binary64) (managedEpsilon binary64) (managedTiny binary64) (a .n) (a .capacity)
+    row-of-copy (ieee binary64) (managedEpsilon binary64) (managedTiny binary64) (a .n) (a .stride)
     (a .row) (now (a .values)) (way m .copied .copy .ensures) (p .1 .1 .1 .1 .1) (rw (b .0, b .1) at (replace-row .ensures))
 
 pub replace-row-spec : {M : Type 1} → statement M

@@ -1,6 +1,5 @@
 -- `drop_column`: as in replace column, with U's last column in its place.
 use borrow.Author.Needs.{needs}
-use Prim.Native.Nat.{_-_}
 use native.Mathlib.Omega.{arith}
 use lib.Ieee.{binary64}
 use denote.Ref.{now}

@@ -1,14 +1,12 @@
 -- `restore`: Backward, the entry that it hands over, and Forward.
 use borrow.Author.Needs.{needs}
 use mathlib.Core.Path.{_∙_}
-use Prim.Native.Nat.{_-_}
 use native.Mathlib.Omega.{arith}
 use lib.Ieee.{binary64}
 use lib.ListN.{length-set}
 use denote.Ref.{now}
 use Rattle.numbers.specs.NumberForm.{ieee}
 use native.Mathlib.Numerals.{add-one}
-use Rattle.machine.specs.Products.{entry}
 use Rattle.buffers.proofs.Buffers.{room-kept}
 use Rattle.stages.proofs.StageLaws.{forward-counted-le, backward-counted-le, restored-outcome}
 use Rattle.stages.proofs.restore.Statement.{statement}

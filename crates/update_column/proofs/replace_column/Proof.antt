@@ -1,6 +1,5 @@
 -- `replace_column`: the column, and where it is not the last the triangle restored.
 use borrow.Author.Needs.{needs}
-use Prim.Native.Nat.{_-_}
 use native.Mathlib.Omega.{arith}
 use lib.Ieee.{binary64}
 use denote.Ref.{now}

@@ -1,7 +1,6 @@
 -- `replace_row`: Backward clears the row's place in L, and Forward puts the new row in.
 use borrow.Author.Needs.{needs}
 use mathlib.Core.Path.{refl, _∙_}
-use Prim.Native.Nat.{_-_}
 use native.Mathlib.Omega.{arith}
 use lib.Ieee.{binary64}
 use denote.Ref.{now}
