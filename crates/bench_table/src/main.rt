@@ -45,7 +45,8 @@ fn place(row: usize, column: usize)
 fn transformed(first: f64, second: f64) {
     let mut x = first;
     let mut y = second;
-    let transform = elementary(&mut x, &mut y, managed());
+    let tolerances = managed();
+    let transform = elementary(&mut x, &mut y, tolerances.tiny);
     text(b": m ");
     double(transform.multiplier);
     if transform.swap {

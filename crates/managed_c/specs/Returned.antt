@@ -3,16 +3,18 @@ use mathlib.Core.Path.{_≡_}
 use mathlib.Core.Bool.{cond}
 use mathlib.Core.List.{List}
 use Prim.Native.Nat.{ℕ}
-use lib.Ieee.{Float}
+use lib.Ieee.{Float, Format}
 use Rattle.machine.specs.Calls.{Call, Answer, numberOf}
 use Rattle.storage.specs.Lengths as storage
-use Rattle.managed.specs.Instance.{Instance}
-use Rattle.api.specs.Answers.{ReadyAnswer, answered, notAnswered}
+use Rattle.managed.specs.Instance.{stateValue, lentToSolve}
+use Rattle.managed.specs.StorageAnswers.{ReadyAnswer, answered, notAnswered}
 use Rattle.answers.specs.Returned.{Returned}
 
 -- A solve is handed no counter and makes no pair steps: this holds at every counter that the host keeps.
-abbrev pub SolveReturned : Call Float → (ℕ → Instance Float) → (ℕ → Instance Float) → List Float → (Answer → Type 0) → ℕ → Type 0
-SolveReturned c s t b Out number = (counter : ℕ) → Returned c (s counter) (t counter) b 0 Out number
+-- L is left as l′ and the right-hand side as b.
+abbrev pub SolveReturned : Format → Call Float → ℕ → ℕ → (l u l′ b : List Float) → (Answer → Type 0) → ℕ → Type 0
+SolveReturned F call n c l u l′ b Out number =
+    (counter : ℕ) → Returned F call (lentToSolve (stateValue n c counter) l u) (lentToSolve (stateValue n c counter) l′ u) b 0 Out number
 
 -- the lengths are written where nothing was refused: of L's and U's, before and afterwards
 abbrev pub LengthsReturned : storage.LengthsAnswer → ℕ → ℕ → ℕ → ℕ → ℕ → Type 0

@@ -8,17 +8,16 @@ ghost use Rattle.machine.specs.Solves.{diagonals};
 ghost use Rattle.machine.specs.Calls as calls;
 ghost use Rattle.storage.specs.Lengths.{requiredLengths};
 ghost use Rattle.storage.specs.Views.{viewU};
-ghost use Rattle.managed.specs.Instance.{lentToSolve};
 ghost use Rattle.managed.specs.Refusals.{storageTests};
+ghost use Rattle.managed.specs.StorageAnswers.{readyUnder};
 ghost use Rattle.answers.specs.Numbers.{indexAfter};
-ghost use Rattle.api.specs.Answers.{readyUnder};
 ghost use Rattle.managed_c.specs.Returned.{SolveReturned, LengthsReturned, ReadyReturned};
 use answers::answer_number;
 use answers::named_index;
 use answers::refusal_number;
 use api::Adoption;
 use api::LuMod;
-use api::Readiness;
+use readiness::Readiness;
 use storage::RequiredLengths;
 
 // The lengths of L and U that a capacity needs.
@@ -57,7 +56,7 @@ pub extern "C" fn lumod_solve(
     rhs: &mut [f64],
     index: &mut usize,
 ) -> u32
-    ensures { λ r. ⌜ SolveReturned (calls.solve (now (rhs .entry))) (λ k. lentToSolve n c k (now (l .entry)) (now (u .entry))) (λ k. lentToSolve n c k (now (l .exit)) (now (u .entry))) (now (rhs .exit))
+    ensures { λ r. ⌜ SolveReturned binary64 (calls.solve (now (rhs .entry))) n c (now (l .entry)) (now (u .entry)) (now (l .exit)) (now (rhs .exit))
         (λ a. now (index .exit) ≡ indexAfter a (now (index .entry))) r ⌝ }
 {
     let state = LuMod {
@@ -81,7 +80,7 @@ pub extern "C" fn lumod_solve_transpose(
     rhs: &mut [f64],
     index: &mut usize,
 ) -> u32
-    ensures { λ r. ⌜ SolveReturned (calls.solveTransposed (now (rhs .entry))) (λ k. lentToSolve n c k (now (l .entry)) (now (u .entry))) (λ k. lentToSolve n c k (now (l .exit)) (now (u .entry))) (now (rhs .exit))
+    ensures { λ r. ⌜ SolveReturned binary64 (calls.solveTransposed (now (rhs .entry))) n c (now (l .entry)) (now (u .entry)) (now (l .exit)) (now (rhs .exit))
         (λ a. now (index .exit) ≡ indexAfter a (now (index .entry))) r ⌝ }
 {
     let state = LuMod {
@@ -98,7 +97,8 @@ pub extern "C" fn lumod_solve_transpose(
 // Whether a solve would be carried out.
 #[no_mangle]
 pub extern "C" fn lumod_ready(n: usize, c: usize, l: &[f64], u: &[f64], ready: &mut u8) -> u32
-    ensures { λ r. ⌜ ReadyReturned (readyUnder (storageTests n c (length (now (l .entry))) (length (now (u .entry)))) (diagonals (ieee binary64) (viewU (ieee binary64) c (now (u .entry))) n)) (now (ready .entry)) (now (ready .exit)) r ⌝ }
+    ensures { λ r. ⌜ ReadyReturned (readyUnder (storageTests n c (length (now (l .entry))) (length (now (u .entry)))) (diagonals (ieee binary64) (viewU (ieee binary64) c (now (u .entry))) n))
+        (now (ready .entry)) (now (ready .exit)) r ⌝ }
 {
     let state = LuMod {
         n,

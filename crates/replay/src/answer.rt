@@ -7,10 +7,10 @@ use api::Adoption;
 use api::Answer;
 use api::CallResult;
 use api::LuMod;
-use api::Readiness;
 use api::RemoveAnswer;
 use api::RemoveResult;
 use api::UpdateResult;
+use readiness::Readiness;
 use refusals::Refusal;
 
 // What stands for no index, no moved row and no moved column.

@@ -2,8 +2,9 @@
 // number, 0 for success, and writes how many pair steps it made, 0 where it is refused.
 ghost use mathlib.Core.Path.{_≡_};
 ghost use mathlib.Core.List.{[]};
+ghost use lib.Ieee.{binary64};
 ghost use Rattle.machine.specs.Calls as calls;
-ghost use Rattle.managed.specs.Instance.{instance};
+ghost use Rattle.managed.specs.Instance.{stateValue, instance};
 ghost use Rattle.answers.specs.Numbers.{movedRowAfter, movedColumnAfter};
 ghost use Rattle.answers.specs.Returned.{Returned, NoOut};
 use answers::answer_number;
@@ -28,8 +29,9 @@ pub extern "C" fn lumod_push(
     counter: &mut usize,
     steps: &mut usize,
 ) -> u32
-    ensures { λ r. ⌜ Returned (calls.push (now (row .entry)) (now (column .entry)) diagonal) (instance (now (n .entry)) c (now (counter .entry)) (now (l .entry)) (now (u .entry)) (now (y .entry)) (now (z .entry)) (now (w .entry)))
-        (instance (now (n .exit)) c (now (counter .exit)) (now (l .exit)) (now (u .exit)) (now (y .exit)) (now (z .exit)) (now (w .exit))) [] (now (steps .exit)) (NoOut) r ⌝ }
+    ensures { λ r. ⌜ Returned binary64 (calls.push (now (row .entry)) (now (column .entry)) diagonal)
+        (instance (stateValue (now (n .entry)) c (now (counter .entry))) (now (l .entry)) (now (u .entry)) (now (y .entry)) (now (z .entry)) (now (w .entry)))
+        (instance (stateValue (now (n .exit)) c (now (counter .exit))) (now (l .exit)) (now (u .exit)) (now (y .exit)) (now (z .exit)) (now (w .exit))) [] (now (steps .exit)) NoOut r ⌝ }
 {
     let state = LuMod {
         n: *n,
@@ -59,8 +61,9 @@ pub extern "C" fn lumod_replace_row(
     counter: &mut usize,
     steps: &mut usize,
 ) -> u32
-    ensures { λ r. ⌜ Returned (calls.replaceRow row (now (values .entry))) (instance n c (now (counter .entry)) (now (l .entry)) (now (u .entry)) (now (y .entry)) (now (z .entry)) (now (w .entry)))
-        (instance n c (now (counter .exit)) (now (l .exit)) (now (u .exit)) (now (y .exit)) (now (z .exit)) (now (w .exit))) [] (now (steps .exit)) (NoOut) r ⌝ }
+    ensures { λ r. ⌜ Returned binary64 (calls.replaceRow row (now (values .entry)))
+        (instance (stateValue n c (now (counter .entry))) (now (l .entry)) (now (u .entry)) (now (y .entry)) (now (z .entry)) (now (w .entry)))
+        (instance (stateValue n c (now (counter .exit))) (now (l .exit)) (now (u .exit)) (now (y .exit)) (now (z .exit)) (now (w .exit))) [] (now (steps .exit)) NoOut r ⌝ }
 {
     let state = LuMod {
         n,
@@ -89,8 +92,9 @@ pub extern "C" fn lumod_replace_column(
     counter: &mut usize,
     steps: &mut usize,
 ) -> u32
-    ensures { λ r. ⌜ Returned (calls.replaceColumn column (now (values .entry))) (instance n c (now (counter .entry)) (now (l .entry)) (now (u .entry)) (now (y .entry)) (now (z .entry)) (now (w .entry)))
-        (instance n c (now (counter .exit)) (now (l .exit)) (now (u .exit)) (now (y .exit)) (now (z .exit)) (now (w .exit))) [] (now (steps .exit)) (NoOut) r ⌝ }
+    ensures { λ r. ⌜ Returned binary64 (calls.replaceColumn column (now (values .entry)))
+        (instance (stateValue n c (now (counter .entry))) (now (l .entry)) (now (u .entry)) (now (y .entry)) (now (z .entry)) (now (w .entry)))
+        (instance (stateValue n c (now (counter .exit))) (now (l .exit)) (now (u .exit)) (now (y .exit)) (now (z .exit)) (now (w .exit))) [] (now (steps .exit)) NoOut r ⌝ }
 {
     let state = LuMod {
         n,
@@ -121,8 +125,10 @@ pub extern "C" fn lumod_remove(
     counter: &mut usize,
     steps: &mut usize,
 ) -> u32
-    ensures { λ r. ⌜ Returned (calls.remove row column) (instance (now (n .entry)) c (now (counter .entry)) (now (l .entry)) (now (u .entry)) (now (y .entry)) (now (z .entry)) (now (w .entry)))
-        (instance (now (n .exit)) c (now (counter .exit)) (now (l .exit)) (now (u .exit)) (now (y .exit)) (now (z .exit)) (now (w .exit))) [] (now (steps .exit)) (λ a. (now («moved_row» .exit) ≡ movedRowAfter a (now («moved_row» .entry))) × (now («moved_column» .exit) ≡ movedColumnAfter a (now («moved_column» .entry)))) r ⌝ }
+    ensures { λ r. ⌜ Returned binary64 (calls.remove row column)
+        (instance (stateValue (now (n .entry)) c (now (counter .entry))) (now (l .entry)) (now (u .entry)) (now (y .entry)) (now (z .entry)) (now (w .entry)))
+        (instance (stateValue (now (n .exit)) c (now (counter .exit))) (now (l .exit)) (now (u .exit)) (now (y .exit)) (now (z .exit)) (now (w .exit))) [] (now (steps .exit))
+        (λ a. (now («moved_row» .exit) ≡ movedRowAfter a (now («moved_row» .entry))) × (now («moved_column» .exit) ≡ movedColumnAfter a (now («moved_column» .entry)))) r ⌝ }
 {
     let state = LuMod {
         n: *n,

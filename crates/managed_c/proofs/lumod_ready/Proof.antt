@@ -2,7 +2,8 @@
 use borrow.Author.Needs.{needs}
 use mathlib.Core.Path.{refl, sym, ap, _∙_, subst}
 use denote.Ref.{now}
-use Rattle.api.specs.Answers.{ReadyAnswer, readinessOf}
+use Rattle.managed.specs.StorageAnswers.{ReadyAnswer}
+use Rattle.readiness.specs.Readiness.{readinessOf}
 use Rattle.managed_c.specs.Returned.{ReadyReturned}
 use Rattle.managed_c.proofs.lumod_ready.Statement.{statement}
 use Rattle.managed_c.proofs.lumod_ready.Tie as tie

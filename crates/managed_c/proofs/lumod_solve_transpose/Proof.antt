@@ -2,8 +2,11 @@
 use borrow.Author.Needs.{needs}
 use mathlib.Core.Path.{refl}
 use denote.Ref.{now}
+use lib.Ieee.{binary64}
+use Rattle.numbers.specs.NumberForm.{ieee}
+use Rattle.numbers.specs.Tolerances.{managedEpsilon, managedTiny}
 use Rattle.machine.specs.Calls as calls
-use Rattle.managed.specs.Instance.{lentToSolve}
+use Rattle.managed.specs.Instance.{stateValue, lentToSolve}
 use Rattle.answers.proofs.Returns.{returned-solved, transposed-stays}
 use Rattle.managed_c.proofs.lumod_solve_transpose.Statement.{statement}
 use Rattle.managed_c.proofs.lumod_solve_transpose.Tie as tie
@@ -28,8 +31,8 @@ returns c =
     let t : tie.After-solve-transpose-in-place = search in
     let start : tie.Start = search in
     let a = start .args in
-    let s = lentToSolve (a .n) (a .c) 0 (now (a .l)) (now (a .u)) in
-    returned-solved (calls.solveTransposed (now (a .rhs))) s (t .solve-transpose-in-place .ensures) (c .answer-number .ensures) (c .before .named-index .ensures) (transposed-stays (now (a .rhs)) s) refl
+    let s = lentToSolve (stateValue (a .n) (a .c) 0) (now (a .l)) (now (a .u)) in
+    returned-solved binary64 (calls.solveTransposed (now (a .rhs))) s (t .solve-transpose-in-place .ensures) (c .answer-number .ensures) (c .before .named-index .ensures) (transposed-stays (ieee binary64) (managedEpsilon binary64) (managedTiny binary64) (now (a .rhs)) s) refl
 
 pub lumod-solve-transpose-spec : {M : Type 1} → statement M
 lumod-solve-transpose-spec =

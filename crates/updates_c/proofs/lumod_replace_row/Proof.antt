@@ -1,8 +1,11 @@
 -- `lumod_replace_row`: the outcome of `LuMod::replace_row`, and its number.
 use borrow.Author.Needs.{needs}
 use denote.Ref.{now}
+use lib.Ieee.{binary64}
+use Rattle.numbers.specs.NumberForm.{ieee}
+use Rattle.numbers.specs.Tolerances.{managedEpsilon, managedTiny}
 use Rattle.machine.specs.Calls as calls
-use Rattle.managed.specs.Instance.{instance}
+use Rattle.managed.specs.Instance.{stateValue, instance}
 use Rattle.answers.proofs.Returns.{returned-staying, row-stays}
 use Rattle.updates_c.proofs.lumod_replace_row.Statement.{statement}
 use Rattle.updates_c.proofs.lumod_replace_row.Tie as tie
@@ -33,8 +36,8 @@ returns c =
     let r : tie.After-replace-row = search in
     let start : tie.Start = search in
     let a = start .args in
-    let s = instance (a .n) (a .c) (now (a .counter)) (now (a .l)) (now (a .u)) (now (a .y)) (now (a .z)) (now (a .w)) in
-    returned-staying (calls.replaceRow (a .row) (now (a .values))) s (r .replace-row .ensures) (c .answer-number .ensures) tt (row-stays (a .row) (now (a .values)) s)
+    let s = instance (stateValue (a .n) (a .c) (now (a .counter))) (now (a .l)) (now (a .u)) (now (a .y)) (now (a .z)) (now (a .w)) in
+    returned-staying binary64 (calls.replaceRow (a .row) (now (a .values))) s (r .replace-row .ensures) (c .answer-number .ensures) tt (row-stays (ieee binary64) (managedEpsilon binary64) (managedTiny binary64) (a .row) (now (a .values)) s)
 
 pub lumod-replace-row-spec : {M : Type 1} → statement M
 lumod-replace-row-spec =
