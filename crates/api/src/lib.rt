@@ -16,9 +16,15 @@ ghost use Rattle.managed_updates.specs.Attempted as updates;
 ghost use Rattle.readiness.specs.Readiness.{readinessOf};
 ghost use Rattle.api.specs.Answers.{stateOf, answerOf, movedRowOf, movedColumnOf, updateReport, removeReport, solveReport, adoptionOf};
 use counter::added;
-use managed_updates::Made;
+use managed_solves::solve;
+use managed_solves::solve_transpose;
 use managed_updates::Update;
+use managed_updates::push;
+use managed_updates::remove;
+use managed_updates::replace_column;
+use managed_updates::replace_row;
 use readiness::Readiness;
+use readiness::ready;
 use refusals::Refusal;
 use refusals::Test;
 use refusals::test_storage;
@@ -110,15 +116,27 @@ fn call_result(state: LuMod, test: Test) -> CallResult
     }
 }
 
-// The state after an update that was carried out.
-fn updated(state: LuMod, made: Made) -> LuMod
-    ensures { λ r. ⌜ stateOf r ≡ updates.stateMade made (state .capacity) (state .counter) ⌝ }
+// The state after an update: its dimension and the counter with its pair steps, or where it was refused the state as it was.
+fn state_after(state: LuMod, update: Update) -> LuMod
+    ensures { λ r. ⌜ stateOf r ≡ updates.stateAfter update (state .n) (state .capacity) (state .counter) ⌝ }
 {
-    let counter = added(state.counter, made.steps);
-    LuMod {
-        n: made.dimension,
-        capacity: state.capacity,
-        counter,
+    match update {
+        Update::Made(made) => LuMod {
+            n: made.dimension,
+            capacity: state.capacity,
+            counter: added(state.counter, made.steps),
+        },
+        Update::Refused(_) => state,
+    }
+}
+
+// How many pair steps an update made: 0 where it was refused.
+fn steps_of(update: Update) -> usize
+    ensures { λ r. ⌜ r ≡ updates.stepsOf update ⌝ }
+{
+    match update {
+        Update::Made(made) => made.steps,
+        Update::Refused(_) => 0,
     }
 }
 
@@ -126,16 +144,18 @@ fn updated(state: LuMod, made: Made) -> LuMod
 fn update_result(state: LuMod, update: Update) -> UpdateResult
     ensures { λ r. ⌜ (stateOf (r .state) ≡ updates.stateAfter update (state .n) (state .capacity) (state .counter)) × (updateReport r ≡ updates.reportOf update) ⌝ }
 {
+    let state = state_after(state, update);
+    let steps = steps_of(update);
     match update {
-        Update::Made(made) => UpdateResult {
-            state: updated(state, made),
+        Update::Made(_) => UpdateResult {
+            state,
             answer: Answer::Done,
-            steps: made.steps,
+            steps,
         },
         Update::Refused(refusal) => UpdateResult {
             state,
             answer: Answer::Refused(refusal),
-            steps: 0,
+            steps,
         },
     }
 }
@@ -176,16 +196,18 @@ fn what_moved(row: usize, column: usize, last: usize) -> Removal
 fn remove_result(state: LuMod, update: Update, row: usize, column: usize) -> RemoveResult
     ensures { λ r. ⌜ (stateOf (r .state) ≡ updates.stateAfter update (state .n) (state .capacity) (state .counter)) × (removeReport r ≡ updates.removeReportOf row column update) ⌝ }
 {
+    let state = state_after(state, update);
+    let steps = steps_of(update);
     match update {
         Update::Made(made) => RemoveResult {
-            state: updated(state, made),
+            state,
             answer: RemoveAnswer::Removed(what_moved(row, column, made.dimension)),
-            steps: made.steps,
+            steps,
         },
         Update::Refused(refusal) => RemoveResult {
             state,
             answer: RemoveAnswer::Refused(refusal),
-            steps: 0,
+            steps,
         },
     }
 }
@@ -237,7 +259,7 @@ impl LuMod {
         ensures { λ r. ⌜ readinessOf r ≡ readyUnder (storageTests (self .n) (self .capacity) (length (now (l .entry))) (length (now (u .entry))))
             (diagonals (ieee binary64) (viewU (ieee binary64) (self .capacity) (now (u .entry))) (self .n)) ⌝ }
     {
-        readiness::ready(self.n, self.capacity, l, u)
+        ready(self.n, self.capacity, l, u)
     }
 
     // Appends a row and a column to the matrix; `diagonal` is the entry where they meet. The dimension grows by one. CapacityExceeded where it is the
@@ -257,18 +279,7 @@ impl LuMod {
             (instance (stateOf self) (now (l .entry)) (now (u .entry)) (now (y .entry)) (now (z .entry)) (now (w .entry)))
             (instance (stateOf (r .state)) (now (l .exit)) (now (u .exit)) (now (y .exit)) (now (z .exit)) (now (w .exit))) (updateReport r) ⌝ }
     {
-        let update = managed_updates::push(
-            self.n,
-            self.capacity,
-            l,
-            u,
-            y,
-            z,
-            w,
-            row,
-            column,
-            diagonal,
-        );
+        let update = push(self.n, self.capacity, l, u, y, z, w, row, column, diagonal);
         update_result(self, update)
     }
 
@@ -288,17 +299,7 @@ impl LuMod {
             (instance (stateOf self) (now (l .entry)) (now (u .entry)) (now (y .entry)) (now (z .entry)) (now (w .entry)))
             (instance (stateOf (r .state)) (now (l .exit)) (now (u .exit)) (now (y .exit)) (now (z .exit)) (now (w .exit))) (updateReport r) ⌝ }
     {
-        let update = managed_updates::replace_row(
-            self.n,
-            self.capacity,
-            l,
-            u,
-            y,
-            z,
-            w,
-            row.0,
-            values,
-        );
+        let update = replace_row(self.n, self.capacity, l, u, y, z, w, row.0, values);
         update_result(self, update)
     }
 
@@ -318,17 +319,7 @@ impl LuMod {
             (instance (stateOf self) (now (l .entry)) (now (u .entry)) (now (y .entry)) (now (z .entry)) (now (w .entry)))
             (instance (stateOf (r .state)) (now (l .exit)) (now (u .exit)) (now (y .exit)) (now (z .exit)) (now (w .exit))) (updateReport r) ⌝ }
     {
-        let update = managed_updates::replace_column(
-            self.n,
-            self.capacity,
-            l,
-            u,
-            y,
-            z,
-            w,
-            column.0,
-            values,
-        );
+        let update = replace_column(self.n, self.capacity, l, u, y, z, w, column.0, values);
         update_result(self, update)
     }
 
@@ -349,7 +340,7 @@ impl LuMod {
             (instance (stateOf self) (now (l .entry)) (now (u .entry)) (now (y .entry)) (now (z .entry)) (now (w .entry)))
             (instance (stateOf (r .state)) (now (l .exit)) (now (u .exit)) (now (y .exit)) (now (z .exit)) (now (w .exit))) (removeReport r) ⌝ }
     {
-        let update = managed_updates::remove(self.n, self.capacity, l, u, y, z, w, row.0, column.0);
+        let update = remove(self.n, self.capacity, l, u, y, z, w, row.0, column.0);
         remove_result(self, update, row.0, column.0)
     }
 
@@ -359,7 +350,7 @@ impl LuMod {
         ensures { λ r. ⌜ ManagedOutcome binary64 (calls.solve (now (rhs .entry))) (lentToSolve (stateOf self) (now (l .entry)) (now (u .entry)))
             (lentToSolve (stateOf (r .state)) (now (l .exit)) (now (u .entry))) (solveReport r (now (rhs .exit))) ⌝ }
     {
-        let test = managed_solves::solve(self.n, self.capacity, l, u, rhs);
+        let test = solve(self.n, self.capacity, l, u, rhs);
         call_result(self, test)
     }
 
@@ -368,7 +359,7 @@ impl LuMod {
         ensures { λ r. ⌜ ManagedOutcome binary64 (calls.solveTransposed (now (rhs .entry))) (lentToSolve (stateOf self) (now (l .entry)) (now (u .entry)))
             (lentToSolve (stateOf (r .state)) (now (l .exit)) (now (u .entry))) (solveReport r (now (rhs .exit))) ⌝ }
     {
-        let test = managed_solves::solve_transpose(self.n, self.capacity, l, u, rhs);
+        let test = solve_transpose(self.n, self.capacity, l, u, rhs);
         call_result(self, test)
     }
 }

@@ -13,7 +13,8 @@ use Rattle.machine.specs.Agreement.{Same}
 use Rattle.machine.proofs.Numbered.{accepted-is-0}
 use Rattle.storage.specs.Places.{uLength, lIndex}
 use Rattle.storage.specs.Views.{viewL}
-use Rattle.storage.proofs.Places.{lIndex-within, lIndex-not-work, uIndex-within}
+use Rattle.storage.proofs.Places.{lIndex-not-work}
+use Rattle.storage.proofs.Frames.{frame-leaves-L, frame-leaves-U}
 use Rattle.managed.specs.Instance.{Instance, view}
 use Rattle.managed.specs.Refusals.{refusalAt}
 use Rattle.managed.specs.Outcome.{Report, resultOf, Frame, Outcome}
@@ -42,10 +43,10 @@ module _ (N : NumberForm) (E T : N .Value) {c : Call (N .Value)} {s t : Instance
     framed = subst (λ (p : Bool). Frame N p s t) update (o .frame e)
 
     pub update-leaves-L : (q : ℕ) → s .c * s .c ≤ q → getD (t .l) q absent ≡ getD (s .l) q absent
-    update-leaves-L q h = framed .l-kept .same q (λ p. omega (arith, p .4, lIndex-within (s .c) (p .0) (p .1) (omega (arith, p .2, dimension-within)) (omega (arith, p .3, dimension-within))))
+    update-leaves-L = frame-leaves-L N (s .c) (max (s .n) (t .n)) framed dimension-within
 
     pub update-leaves-U : (q : ℕ) → uLength (s .c) ≤ q → getD (t .u) q absent ≡ getD (s .u) q absent
-    update-leaves-U q h = framed .u-kept .same q (λ p. omega (arith, p .4, uIndex-within (s .c) (p .0) (p .1) (p .2) (omega (arith, p .3, dimension-within))))
+    update-leaves-U = frame-leaves-U N (s .c) (max (s .n) (t .n)) framed dimension-within
 
   -- ---- a solve
 

@@ -142,6 +142,8 @@ pub record RefusalOrder : Type 0 where
   row-seven-before-eight : refuses bare (replaceRow 0 []) ≡ some (refused 7)
   row-eight : refuses bare (replaceRow 0 one) ≡ some (refused 8)
   row-accepted : refuses narrow (replaceRow 0 one) ≡ none
+  -- 4 is for a push alone
+  row-at-capacity : refuses full (replaceRow 0 one) ≡ none
   -- replace column: 6, 7, 8
   column-three-before-six : refuses (lent (whole 1) 1 2 6 3 2 1 2) (replaceColumn 1 []) ≡ some (refused 3)
   column-six-before-seven : refuses bare (replaceColumn 1 []) ≡ some (refused 6)
@@ -182,6 +184,7 @@ refusalOrder = record {
   row-seven-before-eight = refl;
   row-eight = refl;
   row-accepted = refl;
+  row-at-capacity = refl;
   column-three-before-six = refl;
   column-six-before-seven = refl;
   column-seven-before-eight = refl;

@@ -11,7 +11,6 @@ use Rattle.managed.specs.Instance.{StateValue, stateValue, instance}
 use Rattle.managed.specs.Outcome.{Report, report}
 use Rattle.managed.specs.Demands.{ManagedOutcome}
 use Rattle.refusals.specs.Refusal.{refusalOf}
-use Rattle.managed_updates.specs.declared.Made as declared
 use Rattle.managed_updates.specs.declared.Update.{Update}
 use Rattle.managed_updates.specs.declared.Update.the-variants.{Made, Refused}
 
@@ -19,7 +18,12 @@ use Rattle.managed_updates.specs.declared.Update.the-variants.{Made, Ref
 abbrev pub movedFrom : ℕ → ℕ → Option ℕ
 movedFrom last i = cond (eqb i last) none (some last)
 
--- what it reports: how many pair steps it made beside its answer, 0 where it was refused
+-- how many pair steps it made: 0 where it was refused
+abbrev pub stepsOf : Update → ℕ
+stepsOf (Made m) = m .steps
+stepsOf (Refused r) = 0
+
+-- what it reports
 abbrev pub reportOf : Update → Report Float
 reportOf (Made m) = report done [] (m .steps)
 reportOf (Refused r) = report (refusalOf r) [] 0
@@ -30,11 +34,8 @@ removeReportOf row column (Made m) = report (moved (movedFrom (m .dimension) row
 removeReportOf row column (Refused r) = report (refusalOf r) [] 0
 
 -- the state after it: its dimension, and the counter with its pair steps; where it was refused, the state as it was
-abbrev pub stateMade : declared.Made → ℕ → ℕ → StateValue
-stateMade m c counter = stateValue (m .dimension) c (capped (counter + m .steps))
-
 abbrev pub stateAfter : Update → ℕ → ℕ → ℕ → StateValue
-stateAfter (Made m) n c counter = stateMade m c counter
+stateAfter (Made m) n c counter = stateValue (m .dimension) c (capped (counter + m .steps))
 stateAfter (Refused r) n c counter = stateValue n c counter
 
 -- the call's outcome, with that report, at every counter

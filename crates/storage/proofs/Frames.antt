@@ -1,15 +1,28 @@
 -- Laws of `UpdateFrame` and of `Updated`.
-use mathlib.Core.Path.{subst}
+use mathlib.Core.Path.{_≡_, subst}
 use mathlib.Core.List.{List, []}
-use Prim.Native.Nat.{ℕ, _<_}
+use Prim.Native.Nat.{ℕ, _*_, _≤_, _<_}
+use native.Mathlib.Omega.{arith}
+use lib.ListN.{getD}
 use Rattle.numbers.specs.NumberForm.{NumberForm}
 use Rattle.machine.specs.Tables.{State}
 use Rattle.machine.specs.Agreement.{Agree}
 use Rattle.machine.proofs.Choice.{agree-trans}
-use Rattle.storage.specs.Places.{LPlace, UPlace}
+use Rattle.storage.specs.Places.{uLength, LPlace, UPlace}
 use Rattle.storage.specs.Views.{stateAt, Kept}
 use Rattle.storage.specs.Updated.{UpdateFrame, Updated}
 use Rattle.storage.proofs.Kept.{kept-all, kept-then}
+use Rattle.storage.proofs.Places.{lIndex-within, uIndex-within}
+
+-- an update leaves the solve work, and what lies behind U
+module _ (N : NumberForm) (c m : ℕ) {l u y z w l′ u′ y′ z′ w′ : List (N .Value)} (f : UpdateFrame N c m l u y z w l′ u′ y′ z′ w′) (within : m ≤ c) where
+  open NumberForm N using (absent)
+
+  pub frame-leaves-L : (q : ℕ) → c * c ≤ q → getD l′ q absent ≡ getD l q absent
+  frame-leaves-L q h = f .l-kept .same q (λ p. omega (arith, p .4, lIndex-within c (p .0) (p .1) (omega (arith, p .2)) (omega (arith, p .3))))
+
+  pub frame-leaves-U : (q : ℕ) → uLength c ≤ q → getD u′ q absent ≡ getD u q absent
+  frame-leaves-U q h = f .u-kept .same q (λ p. omega (arith, p .4, uIndex-within c (p .0) (p .1) (p .2) (omega (arith, p .3))))
 
 module _ (N : NumberForm) {c m : ℕ} where
   open NumberForm N using (Value)

@@ -1,5 +1,5 @@
 -- `remove_result`: for each of the two cases.
-use mathlib.Core.Path.{refl}
+use mathlib.Core.Path.{ap}
 use mathlib.Core.List.{[]}
 use borrow.Author.Needs.{needs}
 use Rattle.machine.specs.Calls as calls
@@ -7,11 +7,14 @@ use Rattle.managed.specs.Outcome.{report}
 use Rattle.api.proofs.remove_result.Statement.{statement}
 use Rattle.api.proofs.remove_result.Tie as tie
 
+state-after-requires : tie.Need-state-after-requires
+state-after-requires c κs = search needs
+
+steps-of-requires : tie.Need-steps-of-requires
+steps-of-requires c κs = search needs
+
 enum-known-update : tie.Need-enum-known-update
 enum-known-update c = search needs
-
-updated-requires : tie.Need-updated-requires
-updated-requires c κs = search needs
 
 what-moved-requires : tie.Need-what-moved-requires
 what-moved-requires c κs = search needs
@@ -22,19 +25,28 @@ enum-known-update-2 c = search needs
 returns : tie.Need-returns
 returns c =
     let u : tie.After-update = search in
-    let state : tie.After-updated = search in
+    let s : tie.After-steps-of = search in
+    let state : tie.After-state-after = search in
+    let e = u .update .given .1 in
+    let steps = rw e at (s .steps-of .ensures) in
     let m = c .what-moved .ensures in
-    rw (u .update .given .1) (state .updated .ensures, (λ t. report (calls.moved (m .0 t) (m .1 t)) [] (u .update .given .0 .0 .steps)))
+    (state .state-after .ensures, rw e (λ t. report (calls.moved (m .0 t) (m .1 t)) [] (steps t)))
 
 returns-2 : tie.Need-returns-2
-returns-2 c = let u : tie.After-update2 = search in rw (u .update2 .given .1) (refl, refl)
+returns-2 c =
+    let u : tie.After-update2 = search in
+    let s : tie.After-steps-of = search in
+    let state : tie.After-state-after = search in
+    let e = u .update2 .given .1 in
+    (state .state-after .ensures, rw e (ap (report _ []) (rw e at (s .steps-of .ensures))))
 
 pub remove-result-spec : {M : Type 1} → statement M
 remove-result-spec =
     tie.close
     (tie.spec
+    state-after-requires
+    steps-of-requires
     enum-known-update
-    updated-requires
     what-moved-requires
     enum-known-update-2
     returns

@@ -1,24 +1,39 @@
 -- `update_result`: for each of the two cases.
-use mathlib.Core.Path.{refl}
+use mathlib.Core.Path.{ap}
+use mathlib.Core.List.{[]}
 use borrow.Author.Needs.{needs}
+use Rattle.managed.specs.Outcome.{report}
 use Rattle.api.proofs.update_result.Statement.{statement}
 use Rattle.api.proofs.update_result.Tie as tie
+
+state-after-requires : tie.Need-state-after-requires
+state-after-requires c κs = search needs
+
+steps-of-requires : tie.Need-steps-of-requires
+steps-of-requires c κs = search needs
+
+enum-told : tie.Need-enum-told
+enum-told c = search needs
 
 enum-known-update : tie.Need-enum-known-update
 enum-known-update c = search needs
 
-updated-requires : tie.Need-updated-requires
-updated-requires c κs = search needs
-
-enum-known-update-2 : tie.Need-enum-known-update-2
-enum-known-update-2 c = search needs
-
 returns : tie.Need-returns
-returns c = let u : tie.After-update = search in rw (u .update .given .1) (c .updated .ensures, refl)
+returns c =
+    let s : tie.After-steps-of = search in
+    let state : tie.After-state-after = search in
+    let e = c .enum-told .given .1 in
+    (state .state-after .ensures, rw e (ap (report _ []) (rw e at (s .steps-of .ensures))))
 
 returns-2 : tie.Need-returns-2
-returns-2 c = let u : tie.After-update2 = search in rw (u .update2 .given .1) (refl, refl)
+returns-2 c =
+    let u : tie.After-update = search in
+    let s : tie.After-steps-of = search in
+    let state : tie.After-state-after = search in
+    let e = u .update .given .1 in
+    (state .state-after .ensures, rw e (ap (report _ []) (rw e at (s .steps-of .ensures))))
 
 pub update-result-spec : {M : Type 1} → statement M
 update-result-spec =
-    tie.close (tie.spec enum-known-update updated-requires enum-known-update-2 returns returns-2)
+    tie.close
+    (tie.spec state-after-requires steps-of-requires enum-told enum-known-update returns returns-2)
