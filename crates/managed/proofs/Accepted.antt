@@ -43,10 +43,10 @@ module _ (N : NumberForm) (E T : N .Value) {c : Call (N .Value)} {s t : Instance
     framed = subst (λ (p : Bool). Frame N p s t) update (o .frame e)
 
     pub update-leaves-L : (q : ℕ) → s .c * s .c ≤ q → getD (t .l) q absent ≡ getD (s .l) q absent
-    update-leaves-L = frame-leaves-L N (s .c) (max (s .n) (t .n)) framed dimension-within
+    update-leaves-L = frame-leaves-L N (s .c) _ framed (omega (arith, dimension-within))
 
     pub update-leaves-U : (q : ℕ) → uLength (s .c) ≤ q → getD (t .u) q absent ≡ getD (s .u) q absent
-    update-leaves-U = frame-leaves-U N (s .c) (max (s .n) (t .n)) framed dimension-within
+    update-leaves-U = frame-leaves-U N (s .c) _ framed (omega (arith, dimension-within))
 
   -- ---- a solve
 
