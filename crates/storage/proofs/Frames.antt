@@ -51,7 +51,7 @@ module _ (N : NumberForm) {c m : ℕ} where
   pub frame-w : {l u y z w w′ : List Value} → Kept N (λ q. q < m) w w′ → UpdateFrame N c m l u y z w l u y z w′
   frame-w h = record { l-kept = kept-all N; u-kept = kept-all N; y-kept = kept-all N; z-kept = kept-all N; w-kept = h }
 
-  -- ---- the factors of a state that agrees, and what was written before
+  -- ---- the factors of a state that agrees
 
   pub updated-as : {Q R : State Value} {l u y z w l′ u′ y′ z′ w′ : List Value} → Agree Q R → Updated N c m Q l u y z w l′ u′ y′ z′ w′ → Updated N c m R l u y z w l′ u′ y′ z′ w′
   updated-as {Q} {R} {l′ = l′} {u′ = u′} same d = record { agree = agree-trans (subst (λ (k : ℕ). Agree (stateAt N c k l′ u′) Q) (same .n) (d .agree)) same; frame = d .frame }
