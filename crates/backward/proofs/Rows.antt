@@ -13,6 +13,7 @@ use Rattle.machine.specs.Backward.{copyRowToDense, negligible, trim, backwardRo
 use Rattle.machine.specs.Agreement.{AgreeWithin}
 use Rattle.machine.specs.Counts.{backwardRowCount, backwardRowsCount}
 use Rattle.machine.proofs.Choice.{pick, out-of-range}
+use Rattle.machine.proofs.CountLimits.{backward-row-count-le, backward-rows-count-le}
 use Rattle.machine.proofs.Counts.{backward-row-count-same}
 use Rattle.storage.specs.Places.{uIndex}
 use Rattle.storage.proofs.Kept.{kept-more}
@@ -64,6 +65,13 @@ module _ (N : NumberForm) where
     pub backward-count-none : (S : Work Value) → 0 ≡ backwardRowsCount N E T selected columns (selected - selected) S
     unfolding backwardRowsCount
     backward-count-none S = let e : selected - selected ≡ 0 = omega arith in rw e
+
+    -- a row takes one pair step at most
+    pub row-counted-le : (row : ℕ) (S : Work Value) {a : ℕ} → a ≡ backwardRowCount N E selected row S → a ≤ 1
+    row-counted-le row S is-a = omega (arith, is-a, backward-row-count-le N E selected row S)
+
+    pub rows-counted-le : (d : ℕ) (S : Work Value) {a : ℕ} → a ≡ backwardRowsCount N E T selected columns d S → a ≤ d
+    rows-counted-le d S is-a = omega (arith, is-a, backward-rows-count-le N E T selected columns d S)
 
     -- S is what the rows before have left of R
     pub backward-count-more : (n row : ℕ) (R : Work Value) {a b : ℕ} {S : Work Value} → columns ≤ n → 0 < row → row ≤ selected → selected < n → a ≡ backwardRowsCount N E T selected columns (selected - row) R

@@ -26,7 +26,7 @@ module _ (N : NumberForm) where
     pub u-long : uLength c ≤ length u
 
   -- The buffers l, u, y, v are left as l′, u′, y′, v′: the factors at dimension n, y from lo below hi and v below k are what f makes of what the buffers
-  -- held. All else is in the frame of an update, in which y and v are the first workspace and the last; the middle one is not lent.
+  -- held. All else is as an update may leave it (storage/specs/Updated.antt): y and v are its first and its last workspace, and no middle one is lent.
   pub record Performed (c n lo hi k : ℕ) (f : Work Value → Work Value) (l u y v l′ u′ y′ v′ : List Value) : Type 0 where
     pub agree : AgreeWithin n lo hi k (workOf c l′ u′ y′ v′) (f (workOf c l u y v))
     pub frame : UpdateFrame N c n l u y [] v l′ u′ y′ [] v′

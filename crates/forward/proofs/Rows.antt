@@ -13,6 +13,7 @@ use Rattle.machine.specs.Forward.{copyDenseToRow, forwardRow, forwardRows}
 use Rattle.machine.specs.Agreement.{AgreeWithin}
 use Rattle.machine.specs.Counts.{forwardRowCount, forwardRowsCount}
 use Rattle.machine.proofs.Choice.{pick, in-range}
+use Rattle.machine.proofs.CountLimits.{forward-row-count-le, forward-rows-count-le}
 use Rattle.machine.proofs.Counts.{forward-row-count-same}
 use Rattle.storage.specs.Places.{uIndex}
 use Rattle.storage.specs.Views.{viewU}
@@ -43,6 +44,13 @@ module _ (N : NumberForm) where
     pub forward-count-none : (S : Work Value) → 0 ≡ forwardRowsCount N E T start last columns (start - start) S
     unfolding forwardRowsCount
     forward-count-none S = let e : start - start ≡ 0 = omega arith in rw e
+
+    -- a row takes one pair step at most
+    pub row-counted-le : (row : ℕ) (S : Work Value) {a : ℕ} → a ≡ forwardRowCount N E row S → a ≤ 1
+    row-counted-le row S is-a = omega (arith, is-a, forward-row-count-le N E row S)
+
+    pub rows-counted-le : (d : ℕ) (S : Work Value) {a : ℕ} → a ≡ forwardRowsCount N E T start last columns d S → a ≤ d
+    rows-counted-le d S is-a = omega (arith, is-a, forward-rows-count-le N E T start last columns d S)
 
     -- S is what the rows before have left of R
     pub forward-count-more : (n row : ℕ) (R : Work Value) {a b : ℕ} {S : Work Value} → columns ≤ n → start ≤ row → row < columns → a ≡ forwardRowsCount N E T start last columns (row - start) R

@@ -142,7 +142,7 @@ unfolding carriedOut acceptedCount pushedCount columnReplacedCount rowReplacedCo
     forwardCount forwardRowsCount forwardRowCount backwardCount backwardRowsCount backwardRowCount
 carriedOutSteps = acceptedCount (ieee binary64) (managedEpsilon binary64) (managedTiny binary64)
 
--- the pair steps of a call
+-- the pair steps of a call under the managed tolerances
 unfoldable pub pairSteps : State Float → Call Float → ℕ
 unfolding call carriedOutSteps count countUnder
 pairSteps = count (ieee binary64) (managedEpsilon binary64) (managedTiny binary64)

@@ -1,6 +1,6 @@
 -- Laws of `UpdateFrame` and of `Updated`.
 use mathlib.Core.Path.{_≡_, subst}
-use mathlib.Core.List.{List, []}
+use mathlib.Core.List.{List}
 use Prim.Native.Nat.{ℕ, _*_, _≤_, _<_}
 use native.Mathlib.Omega.{arith}
 use lib.ListN.{getD}
@@ -40,15 +40,15 @@ module _ (N : NumberForm) {c m : ℕ} where
     w-kept = kept-then N (h .w-kept) (g .w-kept);
   }
 
-  -- A step that was lent no middle workspace leaves what stands there, and a step that was lent no last one likewise.
-  pub frame-middle : {l u y z w l′ u′ y′ w′ : List Value} → UpdateFrame N c m l u y [] w l′ u′ y′ [] w′ → UpdateFrame N c m l u y z w l′ u′ y′ z w′
+  -- A step that was lent something else in the middle workspace's place, or in the last one's, leaves the workspace.
+  pub frame-middle : {l u y x z w l′ u′ y′ x′ w′ : List Value} → UpdateFrame N c m l u y x w l′ u′ y′ x′ w′ → UpdateFrame N c m l u y z w l′ u′ y′ z w′
   frame-middle h = record { l-kept = h .l-kept; u-kept = h .u-kept; y-kept = h .y-kept; z-kept = kept-all N; w-kept = h .w-kept }
 
-  pub frame-last : {l u y z w l′ u′ y′ z′ : List Value} → UpdateFrame N c m l u y z [] l′ u′ y′ z′ [] → UpdateFrame N c m l u y z w l′ u′ y′ z′ w
+  pub frame-last : {l u y z x w l′ u′ y′ z′ x′ : List Value} → UpdateFrame N c m l u y z x l′ u′ y′ z′ x′ → UpdateFrame N c m l u y z w l′ u′ y′ z′ w
   frame-last h = record { l-kept = h .l-kept; u-kept = h .u-kept; y-kept = h .y-kept; z-kept = h .z-kept; w-kept = kept-all N }
 
   -- A step that was lent the middle workspace in the first one's place leaves the first.
-  pub frame-first : {l u y z w l′ u′ z′ w′ : List Value} → UpdateFrame N c m l u z [] w l′ u′ z′ [] w′ → UpdateFrame N c m l u y z w l′ u′ y z′ w′
+  pub frame-first : {l u y z x w l′ u′ z′ x′ w′ : List Value} → UpdateFrame N c m l u z x w l′ u′ z′ x′ w′ → UpdateFrame N c m l u y z w l′ u′ y z′ w′
   frame-first h = record { l-kept = h .l-kept; u-kept = h .u-kept; y-kept = kept-all N; z-kept = h .y-kept; w-kept = h .w-kept }
 
   -- Where one buffer alone was written.
@@ -64,7 +64,7 @@ module _ (N : NumberForm) {c m : ℕ} where
   pub frame-w : {l u y z w w′ : List Value} → Kept N (λ q. q < m) w w′ → UpdateFrame N c m l u y z w l u y z w′
   frame-w h = record { l-kept = kept-all N; u-kept = kept-all N; y-kept = kept-all N; z-kept = kept-all N; w-kept = h }
 
-  -- ---- the factors of a state that agrees, and what was written before
+  -- ---- the factors of a state that agrees
 
   pub updated-as : {Q R : State Value} {l u y z w l′ u′ y′ z′ w′ : List Value} → Agree Q R → Updated N c m Q l u y z w l′ u′ y′ z′ w′ → Updated N c m R l u y z w l′ u′ y′ z′ w′
   updated-as {Q} {R} {l′ = l′} {u′ = u′} same d = record { agree = agree-trans (subst (λ (k : ℕ). Agree (stateAt N c k l′ u′) Q) (same .n) (d .agree)) same; frame = d .frame }

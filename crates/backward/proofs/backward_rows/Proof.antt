@@ -8,10 +8,9 @@ use Rattle.numbers.specs.NumberForm.{ieee}
 use Rattle.machine.specs.Backward.{backwardRow, backwardRows}
 use Rattle.machine.specs.Counts.{backwardRowsCount}
 use Rattle.machine.proofs.Backward.{backward-row-same}
-use Rattle.machine.proofs.CountLimits.{backward-row-count-le, backward-rows-count-le}
 use Rattle.buffers.specs.Performed.{workOf, Performed}
 use Rattle.buffers.proofs.Buffers.{room-kept, performed-none, performed-then, performed-as}
-use Rattle.backward.proofs.Rows.{backward-rows-none, backward-rows-more, backward-count-none, backward-count-more}
+use Rattle.backward.proofs.Rows.{row-counted-le, rows-counted-le, backward-rows-none, backward-rows-more, backward-count-none, backward-count-more}
 use Rattle.backward.proofs.backward_rows.Statement.{statement}
 use Rattle.backward.proofs.backward_rows.Tie as tie
 
@@ -43,7 +42,9 @@ add-steps c =
     let row = let t : tie.After-backward-row Inv-loop μ-loop = search in t .backward-row in
     let a = start .args in
     let p = start .pre in
-    omega (arith, loop .inv .1 .1 .1, backward-rows-count-le (ieee binary64) (a .numerics .epsilon) (a .numerics .tiny) (a .selected) (a .columns) (a .selected - loop .row) (workOf (ieee binary64) (a .stride) (now (a .l)) (now (a .u)) (now (a .y)) (now (a .v))), row .ensures .1, backward-row-count-le (ieee binary64) (a .numerics .epsilon) (a .selected) (loop .row - 1) (workOf (ieee binary64) (a .stride) (loop .l) (loop .u) (loop .y) (loop .v)))
+    let k = rows-counted-le (ieee binary64) (a .numerics .epsilon) (a .numerics .tiny) _ _ _ _ (loop .inv .1 .1 .1) in
+    let r = row-counted-le (ieee binary64) (a .numerics .epsilon) (a .numerics .tiny) _ (a .columns) _ _ (row .ensures .1) in
+    omega (arith, k, r)
 
 loop-less : tie.Need-loop-less Inv-loop μ-loop
 loop-less c = omega arith

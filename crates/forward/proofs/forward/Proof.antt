@@ -9,11 +9,10 @@ use Rattle.numbers.specs.NumberForm.{ieee}
 use Rattle.machine.specs.Forward.{forwardRow, forwardRows, forward}
 use Rattle.machine.specs.Counts.{forwardRowsCount, forwardCount}
 use Rattle.machine.proofs.Forward.{forward-row-same, copy-dense-same}
-use Rattle.machine.proofs.CountLimits.{forward-row-count-le, forward-rows-count-le}
 use Rattle.ranges.proofs.RowParts.{part-fits}
 use Rattle.buffers.specs.Performed.{workOf, Performed}
 use Rattle.buffers.proofs.Buffers.{room-kept, performed-none, performed-then, performed-as}
-use Rattle.forward.proofs.Rows.{forward-rows-none, forward-rows-more, forward-count-none, forward-count-more, dense-copied}
+use Rattle.forward.proofs.Rows.{row-counted-le, rows-counted-le, forward-rows-none, forward-rows-more, forward-count-none, forward-count-more, dense-copied}
 use Rattle.forward.proofs.forward.Statement.{statement}
 use Rattle.forward.proofs.forward.Tie as tie
 
@@ -43,7 +42,9 @@ add-steps c =
     let row = let t : tie.After-forward-row Inv-loop μ-loop = search in t .forward-row in
     let a = start .args in
     let p = start .pre in
-    omega (arith, loop .inv .1 .1 .1, forward-rows-count-le (ieee binary64) (a .numerics .epsilon) (a .numerics .tiny) (a .first) (a .last) (a .columns) (loop .row - a .first) (workOf (ieee binary64) (a .stride) (now (a .l)) (now (a .u)) (now (a .y)) []), row .ensures .1, forward-row-count-le (ieee binary64) (a .numerics .epsilon) (loop .row) (workOf (ieee binary64) (a .stride) (loop .l) (loop .u) (loop .y) []))
+    let k = rows-counted-le (ieee binary64) (a .numerics .epsilon) (a .numerics .tiny) _ _ _ _ _ (loop .inv .1 .1 .1) in
+    let r = row-counted-le (ieee binary64) (a .numerics .epsilon) (a .numerics .tiny) (a .first) (a .last) (a .columns) _ _ (row .ensures .1) in
+    omega (arith, k, r)
 
 add-row : tie.Need-add-row Inv-loop μ-loop
 add-row c = omega arith

@@ -72,9 +72,9 @@ returns c =
     let b = push-way t .based .zero-based .ensures in
     let a = push-way t .start .args in
     let push = let e : tie.After-push = search in e .push in
-    push-performed (ieee binary64) zeroBasedEpsilon zeroBasedTiny (a .mode) (a .stride) (a .n) (a .row) (a .column) (now (a .l)) (now (a .u)) (now (a .y)) (now (a .z)) (now (a .w))
+    push-performed (ieee binary64) zeroBasedEpsilon zeroBasedTiny (b .0) (b .1) (a .mode) (a .stride) (a .n) (a .row) (a .column) (now (a .l)) (now (a .u)) (now (a .y)) (now (a .z)) (now (a .w))
     (t .if1 .taken)
-    (rw (b .0, b .1) at (push .ensures))
+    (push .ensures)
 
 same-length-6 : tie.Need-same-length-6
 same-length-6 c = search needs
@@ -99,9 +99,9 @@ returns-2 c =
     let a = column-way t .start .args in
     let p = column-way t .start .pre in
     let replace-column = let e : tie.After-replace-column = search in e .replace-column in
-    column-performed (ieee binary64) zeroBasedEpsilon zeroBasedTiny (a .mode) (a .stride) (a .n) (a .row) (a .column) (now (a .l)) (now (a .u)) (now (a .y)) (now (a .z)) (now (a .w)) (t .if2 .taken)
+    column-performed (ieee binary64) zeroBasedEpsilon zeroBasedTiny (b .0) (b .1) (a .mode) (a .stride) (a .n) (a .row) (a .column) (now (a .l)) (now (a .u)) (now (a .y)) (now (a .z)) (now (a .w)) (t .if2 .taken)
     (p .1 .1 .1 .1 .1 .1 .1 .1 .0 (t .if2 .taken))
-    (rw (b .0, b .1) at (replace-column .ensures))
+    (replace-column .ensures)
 
 same-length-11 : tie.Need-same-length-11
 same-length-11 c = search needs
@@ -127,9 +127,9 @@ returns-3 c =
     let a = row-way t .start .args in
     let p = row-way t .start .pre in
     let replace-row = let e : tie.After-replace-row = search in e .replace-row in
-    row-performed (ieee binary64) zeroBasedEpsilon zeroBasedTiny (a .mode) (a .stride) (a .n) (a .row) (a .column) (now (a .l)) (now (a .u)) (now (a .y)) (now (a .z)) (now (a .w)) (t .if3 .taken)
+    row-performed (ieee binary64) zeroBasedEpsilon zeroBasedTiny (b .0) (b .1) (a .mode) (a .stride) (a .n) (a .row) (a .column) (now (a .l)) (now (a .u)) (now (a .y)) (now (a .z)) (now (a .w)) (t .if3 .taken)
     (p .1 .1 .1 .1 .1 .1 .1 .0 (omega arith))
-    (rw (b .0, b .1) at (replace-row .ensures))
+    (replace-row .ensures)
 
 same-length-16 : tie.Need-same-length-16
 same-length-16 c = search needs
@@ -157,8 +157,8 @@ returns-4 c =
     let a = remove-way t .start .args in
     let p = remove-way t .start .pre in
     let remove = let e : tie.After-remove = search in e .remove in
-    remove-performed (ieee binary64) zeroBasedEpsilon zeroBasedTiny (a .mode) (a .stride) (a .n) (a .row) (a .column) (now (a .l)) (now (a .u)) (now (a .y)) (now (a .z)) (now (a .w)) (omega arith)
-    (rw (b .0, b .1) at (remove .ensures))
+    remove-performed (ieee binary64) zeroBasedEpsilon zeroBasedTiny (b .0) (b .1) (a .mode) (a .stride) (a .n) (a .row) (a .column) (now (a .l)) (now (a .u)) (now (a .y)) (now (a .z)) (now (a .w)) (omega arith)
+    (remove .ensures)
 
 pub perform-spec : {M : Type 1} → statement M
 perform-spec =
