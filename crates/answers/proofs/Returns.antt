@@ -6,7 +6,7 @@ use Prim.Native.Nat.{ℕ}
 use lib.Ieee.{Float, Format}
 use Rattle.numbers.specs.NumberForm.{NumberForm, ieee}
 use Rattle.numbers.specs.Tolerances.{managedEpsilon, managedTiny}
-use Rattle.machine.specs.Calls.{Call, replaceRow, replaceColumn, solve, solveTransposed, Answer, numberOf, isUpdate}
+use Rattle.machine.specs.Calls.{Call, replaceRow, replaceColumn, solve, solveTranspose, Answer, numberOf, isUpdate}
 use Rattle.machine.specs.Machine.{accepted}
 use Rattle.managed.specs.Instance.{StateValue, stateValue, Instance, instance, view}
 use Rattle.managed.specs.Outcome.{Report, report}
@@ -34,9 +34,9 @@ module _ (N : NumberForm) (E T : N .Value) where
   unfolding accepted
   solve-stays rhs s = refl
 
-  pub transposed-stays : (rhs : List Value) (s : Instance Value) → Stays (solveTransposed rhs) s
+  pub transpose-stays : (rhs : List Value) (s : Instance Value) → Stays (solveTranspose rhs) s
   unfolding accepted
-  transposed-stays rhs s = refl
+  transpose-stays rhs s = refl
 
 module _ (F : Format) (c : Call Float) (s : Instance Float) where
   abbrev DimensionStays : Type 0

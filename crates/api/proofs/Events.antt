@@ -25,9 +25,9 @@ use Rattle.api.proofs.LuMod.remove.Reads as remove-contract
 use Rattle.api.proofs.LuMod.solve_in_place as solve-code
 use Rattle.api.proofs.LuMod.solve_in_place.Kinds as solve-kinds
 use Rattle.api.proofs.LuMod.solve_in_place.Reads as solve-contract
-use Rattle.api.proofs.LuMod.solve_transpose_in_place as transposed-code
-use Rattle.api.proofs.LuMod.solve_transpose_in_place.Kinds as transposed-kinds
-use Rattle.api.proofs.LuMod.solve_transpose_in_place.Reads as transposed-contract
+use Rattle.api.proofs.LuMod.solve_transpose_in_place as transpose-code
+use Rattle.api.proofs.LuMod.solve_transpose_in_place.Kinds as transpose-kinds
+use Rattle.api.proofs.LuMod.solve_transpose_in_place.Reads as transpose-contract
 
 -- The arguments come as a tuple, in the order in which the functions have them, and so does what they hold afterwards.
 
@@ -90,8 +90,8 @@ pub solve-event : (κs : Lfts 3) (a : ArgsD solve-code.signature κs) (r : ResD 
     (lentToSolve (stateOf (r .state)) (now (s .1 .0)) (now (a .1 .1 .0))) (solveReport r (now (rhs-of s)))
 solve-event κs a r s h = h
 
-pub transposed-event : (κs : Lfts 3) (a : ArgsD transposed-code.signature κs) (r : ResD transposed-code.signature κs) (s : AtExit (endedOf 3 transposed-kinds.ps transposed-kinds.r) κs)
-    → transposed-contract.Learnt κs a r s → ManagedOutcome binary64 (calls.solveTransposed (now (rhs-of a)))
+pub transpose-event : (κs : Lfts 3) (a : ArgsD transpose-code.signature κs) (r : ResD transpose-code.signature κs) (s : AtExit (endedOf 3 transpose-kinds.ps transpose-kinds.r) κs)
+    → transpose-contract.Learnt κs a r s → ManagedOutcome binary64 (calls.solveTranspose (now (rhs-of a)))
     (lentToSolve (stateOf (a .0)) (now (a .1 .0)) (now (a .1 .1 .0)))
     (lentToSolve (stateOf (r .state)) (now (s .1 .0)) (now (a .1 .1 .0))) (solveReport r (now (rhs-of s)))
-transposed-event κs a r s h = h
+transpose-event κs a r s h = h

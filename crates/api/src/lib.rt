@@ -356,7 +356,7 @@ impl LuMod {
 
     // The same with the matrix transposed.
     pub fn solve_transpose_in_place(self, l: &mut [f64], u: &[f64], rhs: &mut [f64]) -> CallResult
-        ensures { λ r. ⌜ ManagedOutcome binary64 (calls.solveTransposed (now (rhs .entry))) (lentToSolve (stateOf self) (now (l .entry)) (now (u .entry)))
+        ensures { λ r. ⌜ ManagedOutcome binary64 (calls.solveTranspose (now (rhs .entry))) (lentToSolve (stateOf self) (now (l .entry)) (now (u .entry)))
             (lentToSolve (stateOf (r .state)) (now (l .exit)) (now (u .entry))) (solveReport r (now (rhs .exit))) ⌝ }
     {
         let test = solve_transpose(self.n, self.capacity, l, u, rhs);

@@ -12,7 +12,7 @@ use borrow.Author.Tests.{eqb-true, eqb-false}
 use Rattle.numbers.specs.NumberForm.{NumberForm}
 use Rattle.machine.specs.Tables.{Table, State}
 use Rattle.machine.specs.Products.{product}
-use Rattle.machine.specs.Calls.{Call, push, replaceRow, replaceColumn, remove, solve, solveTransposed, Answer, refused, numberOf, _orElse_, refuseIf}
+use Rattle.machine.specs.Calls.{Call, push, replaceRow, replaceColumn, remove, solve, solveTranspose, Answer, refused, numberOf, _orElse_, refuseIf}
 use Rattle.machine.specs.Machine.{refusal, accepted, stepUnder, step, run}
 use Rattle.machine.proofs.Refusals.{or-else-none, index-within}
 use Rattle.machine.proofs.Numbered.{refusal-numbered, accepted-is-0}
@@ -80,7 +80,7 @@ module _ {N : NumberForm} (Λ : ExactLaws N) where
         let hk = index-within (S .n) k (refused 6) (o .1) in
         record { size = refl; factorization = removed-kept Λ (S .n) A (S .L) (S .U) r k hr hk h }
     accepted-kept (solve b) e = record { size = refl; factorization = h }
-    accepted-kept (solveTransposed b) e = record { size = refl; factorization = h }
+    accepted-kept (solveTranspose b) e = record { size = refl; factorization = h }
 
     -- no update that is refused counts as accepted
     refused-kept : (c : Call Value) (a : Answer) → refusal N S c ≡ some a → numberOf a ≡ 0 → Kept S (updated N A₀ c)

@@ -22,6 +22,6 @@ module _ (N : NumberForm) (mode c n : ℕ) (l y : List (N .Value)) where
   unfolding solveOf
   plain-solve e = rw (eq-eqb mode 1 e)
 
-  pub transposed-solve : (mode ≡ 1 → ⊥) → solveOf N mode c n l y ≡ forwardSubstitution N (viewU N c l) (entry N y) n
+  pub transpose-solve : (mode ≡ 1 → ⊥) → solveOf N mode c n l y ≡ forwardSubstitution N (viewU N c l) (entry N y) n
   unfolding solveOf
-  transposed-solve e = rw (ne-eqb mode 1 e)
+  transpose-solve e = rw (ne-eqb mode 1 e)

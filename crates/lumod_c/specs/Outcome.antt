@@ -14,7 +14,7 @@ use Rattle.machine.specs.Solves.{backSubstitution, forwardSubstitution}
 use Rattle.machine.specs.Calls.{Answer, refusalNumber}
 use Rattle.storage.specs.Views.{viewL, viewU}
 use Rattle.ranges.specs.Written.{Written}
-use Rattle.modes.specs.UpdateDone.{UpdateDone}
+use Rattle.zero_based_updates.specs.UpdateDone.{UpdateDone}
 use Rattle.host_numbers.specs.Numbers.{sizeOf, strideOf}
 use Rattle.zero_based_tests.specs.Refusals.{updateRefusal, productRefusal, solveRefusal}
 

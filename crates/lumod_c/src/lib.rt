@@ -5,7 +5,6 @@ ghost use Rattle.numbers.specs.Tolerances.{zeroBasedEpsilon, zeroBasedTiny};
 ghost use Rattle.lumod_c.specs.Outcome.{ProductOutcome, SolveOutcome, UpdateOutcome};
 use host_numbers::size;
 use host_numbers::stride;
-use modes::perform;
 use products::l_product;
 use products::l_product_transposed;
 use substitutions::back_substitute;
@@ -14,6 +13,7 @@ use zero_based_tests::passed_over;
 use zero_based_tests::product_lacks_room;
 use zero_based_tests::solve_lacks_room;
 use zero_based_tests::update_lacks_room;
+use zero_based_updates::perform;
 
 // Updates the factors. Mode 1 appends a row and a column (n is the new dimension; row and diagonal in y, column in z), 2 replaces column kcol by z, 3 replaces
 // row krow by y, 4 removes row krow and column kcol. 11 where n, mode or an index is out of range, 12 where a buffer is too short; then nothing is written.

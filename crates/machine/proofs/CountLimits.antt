@@ -11,7 +11,7 @@ use Rattle.machine.specs.Products.{entry}
 use Rattle.machine.specs.Forward.{forwardActs, forwardRows}
 use Rattle.machine.specs.Backward.{trim, backwardSkips, backwardRows}
 use Rattle.machine.specs.Updates.{bordered}
-use Rattle.machine.specs.Calls.{Call, push, replaceRow, replaceColumn, remove, solve, solveTransposed, Answer}
+use Rattle.machine.specs.Calls.{Call, push, replaceRow, replaceColumn, remove, solve, solveTranspose, Answer}
 use Rattle.machine.specs.Counts.{forwardRowCount, backwardRowCount, forwardRowsCount, forwardCount, backwardRowsCount, backwardCount, restoredFromCount, restoredCount, pushedCount, columnReplacedCount, rowReplacedFromCount, rowReplacedCount, columnDroppedCount, removedCount, acceptedCount, countUnder, countLimit, countMost}
 use Rattle.machine.proofs.Backward.{trim-le}
 
@@ -110,7 +110,7 @@ module _ (N : NumberForm) (E T : N .Value) where
   accepted-count-le S (replaceColumn k column) = column-replaced-count-le (S .n) (S .L) (S .U) k column
   accepted-count-le S (remove r k) = removed-count-le (S .n - 1) (S .L) (S .U) r k
   accepted-count-le S (solve b) = omega arith
-  accepted-count-le S (solveTransposed b) = omega arith
+  accepted-count-le S (solveTranspose b) = omega arith
 
   pub count-under-most : (o : Option Answer) (S : State Value) (c : Call Value) → countUnder N E T o S c ≤ countMost (S .n) c
   unfolding countUnder
@@ -123,7 +123,7 @@ module _ (N : NumberForm) (E T : N .Value) where
   most-within n (replaceColumn k column) = omega arith
   most-within n (remove r k) = omega arith
   most-within n (solve b) = omega arith
-  most-within n (solveTransposed b) = omega arith
+  most-within n (solveTranspose b) = omega arith
 
   -- whatever refuses the call or accepts it
   pub count-under-le : (o : Option Answer) (S : State Value) (c : Call Value) → countUnder N E T o S c ≤ countLimit (S .n) c

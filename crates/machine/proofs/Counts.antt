@@ -11,7 +11,7 @@ use Rattle.machine.specs.Tables.{Table, State, Work}
 use Rattle.machine.specs.Products.{entry}
 use Rattle.machine.specs.Forward.{forwardActs}
 use Rattle.machine.specs.Backward.{trim, backwardSkips}
-use Rattle.machine.specs.Calls.{Call, push, replaceRow, replaceColumn, remove, solve, solveTransposed, Answer}
+use Rattle.machine.specs.Calls.{Call, push, replaceRow, replaceColumn, remove, solve, solveTranspose, Answer}
 use Rattle.machine.specs.Machine.{refusal}
 use Rattle.machine.specs.Agreement.{Agree, AgreeWithin}
 use Rattle.machine.specs.Counts.{forwardRowCount, backwardRowCount, forwardRowsCount, forwardCount, backwardRowsCount, backwardCount, restoredFromCount, restoredCount, pushedCount, columnReplacedCount, rowReplacedFromCount, rowReplacedCount, columnDroppedCount, removedCount, acceptedCount, countUnder, count}
@@ -165,7 +165,7 @@ module _ (N : NumberForm) (E T : N .Value) where
     accepted-count-same (replaceColumn k column) e = column-replaced-count-same k column column (index-within n k _ (or-else-none _ _ e .0)) (λ j a. refl)
     accepted-count-same (remove r k) e = let o = or-else-none _ _ e in removed-count-same r k (index-within n r _ (o .0)) (index-within n k _ (o .1))
     accepted-count-same (solve b) e = refl
-    accepted-count-same (solveTransposed b) e = refl
+    accepted-count-same (solveTranspose b) e = refl
 
     count-same-at : (c : Call Value) → count N E T S c ≡ count N E T R c
     unfolding count countUnder

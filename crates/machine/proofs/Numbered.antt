@@ -10,7 +10,7 @@ use lib.ListN.{length}
 use Rattle.numbers.specs.NumberForm.{NumberForm}
 use Rattle.machine.specs.Tables.{Table, State}
 use Rattle.machine.specs.Solves.{diagonals}
-use Rattle.machine.specs.Calls.{Call, push, replaceRow, replaceColumn, remove, solve, solveTransposed, Answer, refused, refusedAt, numberOf, _orElse_, refuseIf}
+use Rattle.machine.specs.Calls.{Call, push, replaceRow, replaceColumn, remove, solve, solveTranspose, Answer, refused, refusedAt, numberOf, _orElse_, refuseIf}
 use Rattle.machine.specs.Machine.{replacementTests, removeTests, solveTests, refusal, accepted}
 use Rattle.machine.proofs.Refusals.{none-is-some}
 
@@ -68,7 +68,7 @@ module _ (N : NumberForm) where
   refusal-numbered S (replaceColumn k column) = replacement-numbered (S .n) k (refused 6) (length column) (omega arith)
   refusal-numbered S (remove r k) = remove-numbered (S .n) r k
   refusal-numbered S (solve b) = solve-numbered S b
-  refusal-numbered S (solveTransposed b) = solve-numbered S b
+  refusal-numbered S (solveTranspose b) = solve-numbered S b
 
 -- ---- an accepted call
 
@@ -79,4 +79,4 @@ accepted-is-0 N E T S (replaceRow r row) = refl
 accepted-is-0 N E T S (replaceColumn k column) = refl
 accepted-is-0 N E T S (remove r k) = refl
 accepted-is-0 N E T S (solve b) = refl
-accepted-is-0 N E T S (solveTransposed b) = refl
+accepted-is-0 N E T S (solveTranspose b) = refl

@@ -7,7 +7,7 @@ use native.Mathlib.Omega.{arith}
 use lib.Dec.{eqb}
 use Rattle.numbers.specs.NumberForm.{NumberForm}
 use Rattle.machine.specs.Tables.{Vector, Table}
-use Rattle.machine.specs.Solves.{substituted, backSubstitution, forwardSubstitution, solution, solutionTransposed, badDiagonal, diagonals}
+use Rattle.machine.specs.Solves.{substituted, backSubstitution, forwardSubstitution, solution, solutionTranspose, badDiagonal, diagonals}
 use Rattle.machine.specs.Calls.{_orElse_}
 use Rattle.machine.proofs.Choice.{tabulate-same}
 use Rattle.machine.proofs.Products.{sum-same, product-same, product-transposed-same}
@@ -48,8 +48,8 @@ module _ (N : NumberForm) where
           tabulate-same n _ _
           (back-substitution-same _ _ (product-same N n L L′ _ _ hL (λ _ _. refl)) n (omega arith))
 
-      pub solution-transposed-same : solutionTransposed N (record { n = n; L = L; U = U }) b ≡ solutionTransposed N (record { n = n; L = L′; U = U′ }) b
-      unfolding solutionTransposed
-      solution-transposed-same =
+      pub solution-transpose-same : solutionTranspose N (record { n = n; L = L; U = U }) b ≡ solutionTranspose N (record { n = n; L = L′; U = U′ }) b
+      unfolding solutionTranspose
+      solution-transpose-same =
           tabulate-same n _ _
           (product-transposed-same N n L L′ _ _ hL (forward-substitution-same _ _ (λ _ _. refl) n (omega arith)))

@@ -8,12 +8,12 @@ use lib.Dec.{leb, eqb, nleb→lt}
 use lib.ListN.{length}
 use Rattle.numbers.specs.NumberForm.{NumberForm}
 use Rattle.machine.specs.Tables.{Table, State}
-use Rattle.machine.specs.Calls.{Call, push, replaceRow, replaceColumn, remove, solve, solveTransposed, Answer, _orElse_, refuseIf}
+use Rattle.machine.specs.Calls.{Call, push, replaceRow, replaceColumn, remove, solve, solveTranspose, Answer, _orElse_, refuseIf}
 use Rattle.machine.specs.Machine.{refusal, accepted, stepUnder, step}
 use Rattle.machine.specs.Agreement.{Agree, Same}
 use Rattle.machine.proofs.Choice.{within-state}
 use Rattle.machine.proofs.Updates.{pushed-same, column-replaced-same, row-replaced-same, removed-same}
-use Rattle.machine.proofs.Solves.{diagonals-same, solution-same, solution-transposed-same}
+use Rattle.machine.proofs.Solves.{diagonals-same, solution-same, solution-transpose-same}
 use Rattle.machine.proofs.Refusals.{or-else-none, refuse-if-none}
 
 module _ (N : NumberForm) (E T : N .Value) where
@@ -36,7 +36,7 @@ module _ (N : NumberForm) (E T : N .Value) where
     refusal-same (replaceColumn k column) = refl
     refusal-same (remove r k) = refl
     refusal-same (solve b) = λ t. refuseIf (not (eqb (length b) n)) 7 orElse diagonals-same N n U U′ hU n (omega arith) t
-    refusal-same (solveTransposed b) = λ t. refuseIf (not (eqb (length b) n)) 7 orElse diagonals-same N n U U′ hU n (omega arith) t
+    refusal-same (solveTranspose b) = λ t. refuseIf (not (eqb (length b) n)) 7 orElse diagonals-same N n U U′ hU n (omega arith) t
 
     -- an index that was not refused
     index-below : (i : ℕ) (number : ℕ) → refuseIf (leb n i) number ≡ none → i < n
@@ -57,7 +57,7 @@ module _ (N : NumberForm) (E T : N .Value) where
         let h = removed-same N E T n L U L′ U′ hL hU r k (index-below r 5 (o .0)) (index-below k 6 (o .1)) in
         record { answer = refl; solved = refl; after = within-state (n - 1) (omega arith) h }
     accepted-same (solve b) e = record { answer = refl; solved = solution-same N n U U′ hU L L′ hL b; after = states-agree }
-    accepted-same (solveTransposed b) e = record { answer = refl; solved = solution-transposed-same N n U U′ hU L L′ hL b; after = states-agree }
+    accepted-same (solveTranspose b) e = record { answer = refl; solved = solution-transpose-same N n U U′ hU L L′ hL b; after = states-agree }
 
     step-same-at : (c : Call Value) → Same (step N E T S c) (step N E T R c)
     unfolding step stepUnder

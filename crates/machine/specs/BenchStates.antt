@@ -13,13 +13,13 @@ use Rattle.machine.specs.Products.{sum, product, productTransposed}
 use Rattle.machine.specs.Forward.{copyDenseToRow, transformRows, forwardActs, forwardTransform, forwardRow, forwardRows, forward}
 use Rattle.machine.specs.Backward.{copyRowToDense, negligible, trim, clearDense, backwardSkips, backwardTransform, backwardRow, backwardRows, backward}
 use Rattle.machine.specs.Updates.{putColumn, putSelected, columnCopied, bordered, columnCleared, unitRow, restoredFrom, restored, pushed, columnReplaced, rowReplacedFrom, rowReplaced, columnDropped, removed}
-use Rattle.machine.specs.Solves.{substituted, backSubstitution, forwardSubstitution, solution, solutionTransposed, diagonals}
+use Rattle.machine.specs.Solves.{substituted, backSubstitution, forwardSubstitution, solution, solutionTranspose, diagonals}
 use Rattle.machine.specs.Calls.{Call, push, Result}
 use Rattle.machine.specs.Machine.{refusal, accepted, stepUnder, step}
 
 -- What a call leaves under the managed tolerances where nothing is refused. Who unfolds it unfolds the whole machine but its refusals.
 unfoldable pub carriedOut : State Float → Call Float → Result Float
-unfolding accepted solution solutionTransposed substituted backSubstitution forwardSubstitution
+unfolding accepted solution solutionTranspose substituted backSubstitution forwardSubstitution
     pushed bordered columnReplaced putColumn restored restoredFrom putSelected rowReplaced rowReplacedFrom columnCleared unitRow removed columnDropped columnCopied
     forward copyDenseToRow forwardRows forwardRow forwardActs forwardTransform transformRows
     backward copyRowToDense negligible trim backwardRows backwardRow clearDense backwardSkips backwardTransform

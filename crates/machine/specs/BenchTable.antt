@@ -10,7 +10,7 @@ use Rattle.numbers.specs.Tolerances.{zeroBasedEpsilon, zeroBasedTiny}
 use Rattle.machine.specs.Tables.{State, tabulate}
 use Rattle.machine.specs.Forward.{forwardActs}
 use Rattle.machine.specs.Backward.{trim, backwardSkips}
-use Rattle.machine.specs.Calls.{Call, push, replaceRow, replaceColumn, remove, solve, solveTransposed, moved, refusedAt, Result}
+use Rattle.machine.specs.Calls.{Call, push, replaceRow, replaceColumn, remove, solve, solveTranspose, moved, refusedAt, Result}
 use Rattle.machine.specs.Machine.{step}
 use Rattle.machine.specs.BenchStates.{carriedOut, call, empty, single, P, Q, square, M, M′, identity}
 
@@ -37,7 +37,7 @@ pub record CallTable : Type 0 where
     U = whole 4 ∷ whole 1 ∷ double 11 2 ∷ [];
   }
   P-solve : call P (solve (whole 8 ∷ whole 5 ∷ [])) .solved ≡ whole 1 ∷ whole 1 ∷ []
-  P-transpose-solve : call P (solveTransposed (whole 6 ∷ whole 7 ∷ [])) .solved ≡ whole 1 ∷ whole 1 ∷ []
+  P-transpose-solve : call P (solveTranspose (whole 6 ∷ whole 7 ∷ [])) .solved ≡ whole 1 ∷ whole 1 ∷ []
   P-replace-column : factors (call P (replaceColumn 0 (whole 1 ∷ whole 8 ∷ [])) .after) ≡ record {
     L = whole 0 ∷ whole 1 ∷ whole 1 ∷ neg (double 1 8) ∷ [];
     U = whole 8 ∷ whole 1 ∷ double 47 8 ∷ [];
@@ -78,7 +78,7 @@ callZeroBased = step (ieee binary64) zeroBasedEpsilon zeroBasedTiny
 pub record TrapTable : Type 0 where
   -- the plain solve takes the L product, and the transpose solve the transposed one
   Q-solve : call Q (solve (whole 8 ∷ whole 2 ∷ [])) .solved ≡ whole 1 ∷ whole 1 ∷ []
-  Q-transpose-solve : call Q (solveTransposed (whole 3 ∷ whole 7 ∷ [])) .solved ≡ whole 1 ∷ whole 1 ∷ []
+  Q-transpose-solve : call Q (solveTranspose (whole 3 ∷ whole 7 ∷ [])) .solved ≡ whole 1 ∷ whole 1 ∷ []
   -- three rows, by what the Rust makes of them: both eliminations with and without exchanges, a trimmed end, rows and columns that move
   M-replace-row : factors (call M (replaceRow 1 (neg (whole 2) ∷ neg (whole 2) ∷ whole 3 ∷ [])) .after) ≡ record {
     L = whole 3 ∷ whole 0 ∷ whole 2 ∷ whole 3 ∷ whole 1 ∷ whole 2 ∷ whole 0 ∷ double 1 2 ∷ neg (whole 1) ∷ [];

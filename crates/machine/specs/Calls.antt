@@ -12,7 +12,7 @@ pub data Call (A : Type 0) : Type 0 where
   replaceColumn : ℕ → List A → Call A
   remove : ℕ → ℕ → Call A
   solve : List A → Call A
-  solveTransposed : List A → Call A
+  solveTranspose : List A → Call A
 
 -- A call's answer is all that it reports: 0 (`done`) or the refusal's number, with its index, and for remove the moved row and the moved column.
 pub data Answer : Type 0 where
@@ -56,7 +56,7 @@ module _ {A : Type 0} where
   given (replaceColumn k column) = []
   given (remove r k) = []
   given (solve b) = b
-  given (solveTransposed b) = b
+  given (solveTranspose b) = b
 
   abbrev pub isPush : Call A → Bool
   isPush (push row column d) = true
@@ -64,7 +64,7 @@ module _ {A : Type 0} where
   isPush (replaceColumn k column) = false
   isPush (remove r k) = false
   isPush (solve b) = false
-  isPush (solveTransposed b) = false
+  isPush (solveTranspose b) = false
 
   -- the calls that lend workspaces
   abbrev pub isUpdate : Call A → Bool
@@ -73,4 +73,4 @@ module _ {A : Type 0} where
   isUpdate (replaceColumn k column) = true
   isUpdate (remove r k) = true
   isUpdate (solve b) = false
-  isUpdate (solveTransposed b) = false
+  isUpdate (solveTranspose b) = false

@@ -14,7 +14,7 @@ use Rattle.machine.specs.Products.{entry}
 use Rattle.machine.specs.Forward.{forwardActs, forwardRows}
 use Rattle.machine.specs.Backward.{copyRowToDense, trim, backwardSkips, backwardRows, backward}
 use Rattle.machine.specs.Updates.{putColumn, putSelected, bordered, columnProduct, lastColumnRead, columnTaken, columnMoved, unitRow, columnDropped}
-use Rattle.machine.specs.Calls.{Call, push, replaceRow, replaceColumn, remove, solve, solveTransposed, Answer}
+use Rattle.machine.specs.Calls.{Call, push, replaceRow, replaceColumn, remove, solve, solveTranspose, Answer}
 use Rattle.machine.specs.Machine.{refusal}
 use Rattle.machine.specs.BenchStates.{carriedOut, call, empty, single, P, square, M, M′, identity}
 
@@ -104,7 +104,7 @@ module _ (N : NumberForm) (E T : N .Value) where
   acceptedCount S (replaceColumn k column) = columnReplacedCount (S .n) (S .L) (S .U) k column
   acceptedCount S (remove r k) = removedCount (S .n - 1) (S .L) (S .U) r k
   acceptedCount S (solve b) = 0
-  acceptedCount S (solveTransposed b) = 0
+  acceptedCount S (solveTranspose b) = 0
 
   -- a call under a refusal: a refused one makes none
   unfoldable pub countUnder : Option Answer → State Value → Call Value → ℕ
@@ -123,7 +123,7 @@ countLimit n (replaceRow r row) = 2 * (n - 1)
 countLimit n (replaceColumn k column) = 2 * (n - 1 - k)
 countLimit n (remove r k) = 3 * (n - 1)
 countLimit n (solve b) = 0
-countLimit n (solveTransposed b) = 0
+countLimit n (solveTranspose b) = 0
 
 -- A sharper limit, which the lines below reach: to restore the triangle, Backward has a row less than Forward, and remove restores it from column k on.
 abbrev pub countMost : {A : Type 0} → ℕ → Call A → ℕ
@@ -132,7 +132,7 @@ countMost n (replaceRow r row) = 2 * (n - 1)
 countMost n (replaceColumn k column) = 2 * (n - 1 - k) - 1
 countMost n (remove r k) = 2 * (n - 1 - k) - 1 + (n - 1)
 countMost n (solve b) = 0
-countMost n (solveTransposed b) = 0
+countMost n (solveTranspose b) = 0
 
 -- ---- computed
 
@@ -157,7 +157,7 @@ pub record CountTable : Type 0 where
   first-push : pairSteps empty (push [] [] (whole 2)) ≡ 0
   P-is : pairSteps (single (whole 2)) (push (whole 4 ∷ []) (whole 6 ∷ []) (whole 1)) ≡ 1
   P-solve : pairSteps P (solve (whole 8 ∷ whole 5 ∷ [])) ≡ 0
-  P-transpose-solve : pairSteps P (solveTransposed (whole 6 ∷ whole 7 ∷ [])) ≡ 0
+  P-transpose-solve : pairSteps P (solveTranspose (whole 6 ∷ whole 7 ∷ [])) ≡ 0
   P-replace-column : pairSteps P (replaceColumn 0 (whole 1 ∷ whole 8 ∷ [])) ≡ 1
   P-replace-row : pairSteps P (replaceRow 0 (whole 1 ∷ whole 1 ∷ [])) ≡ 1
   P-remove : pairSteps P (remove 1 1) ≡ 1

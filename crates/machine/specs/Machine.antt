@@ -11,8 +11,8 @@ use lib.Ieee.{Float, nan, binary64, eq, ofBits}
 use Rattle.numbers.specs.NumberForm.{NumberForm, nearest, ieee, whole}
 use Rattle.machine.specs.Tables.{State, stateOf}
 use Rattle.machine.specs.Updates.{pushed, columnReplaced, rowReplaced, removed}
-use Rattle.machine.specs.Solves.{solution, solutionTransposed, diagonals, diagonal}
-use Rattle.machine.specs.Calls.{Call, push, replaceRow, replaceColumn, remove, solve, solveTransposed, Answer, done, moved, refused, Result, _orElse_, refuseIf, given}
+use Rattle.machine.specs.Solves.{solution, solutionTranspose, diagonals, diagonal}
+use Rattle.machine.specs.Calls.{Call, push, replaceRow, replaceColumn, remove, solve, solveTranspose, Answer, done, moved, refused, Result, _orElse_, refuseIf, given}
 
 -- ---- indices and lengths, at dimension n
 
@@ -42,7 +42,7 @@ module _ (N : NumberForm) where
   refusal S (replaceColumn k column) = replacementTests (S .n) k (refused 6) (length column)
   refusal S (remove r k) = removeTests (S .n) r k
   refusal S (solve b) = solveTests (S .n) (length b) orElse diagonals N (S .U) (S .n)
-  refusal S (solveTransposed b) = solveTests (S .n) (length b) orElse diagonals N (S .U) (S .n)
+  refusal S (solveTranspose b) = solveTests (S .n) (length b) orElse diagonals N (S .U) (S .n)
 
 module _ (N : NumberForm) (E T : N .Value) where
   open NumberForm N using (Value)
@@ -63,7 +63,7 @@ module _ (N : NumberForm) (E T : N .Value) where
         after = stateOf p (removed N E T p (S .L) (S .U) r k);
       }
   accepted S (solve b) = record { answer = done; solved = solution N S b; after = S }
-  accepted S (solveTransposed b) = record { answer = done; solved = solutionTransposed N S b; after = S }
+  accepted S (solveTranspose b) = record { answer = done; solved = solutionTranspose N S b; after = S }
 
   -- a call under a refusal: a refusal changes nothing
   unfoldable pub stepUnder : Option Answer → State Value → Call Value → Result Value
@@ -109,7 +109,7 @@ pub record RefusalOrder : Type 0 where
   remove-column : refuses sound (remove 2 3) ≡ some (refused 6)
   solve-accepted : refuses sound (solve ones) ≡ none
   solve-length-first : refuses (withDiagonal (whole 0) nan nan) (solve []) ≡ some (refused 7)
-  transposed-length-first : refuses (withDiagonal (whole 0) nan nan) (solveTransposed []) ≡ some (refused 7)
+  transpose-length-first : refuses (withDiagonal (whole 0) nan nan) (solveTranspose []) ≡ some (refused 7)
 
 pub refusalOrder : RefusalOrder
 unfolding refuses refusal diagonals withDiagonal sound ones nearest eq ofBits
@@ -128,5 +128,5 @@ refusalOrder = record {
   remove-column = refl;
   solve-accepted = refl;
   solve-length-first = refl;
-  transposed-length-first = refl;
+  transpose-length-first = refl;
 }

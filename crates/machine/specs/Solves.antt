@@ -40,8 +40,8 @@ module _ (N : NumberForm) where
   solution S b = tabulate (S .n) (backSubstitution (S .n) (S .U) (product N (S .n) (S .L) (entry N b)) (S .n))
 
   -- Transpose solve: forward substitution, then the transposed L product.
-  unfoldable pub solutionTransposed : State Value → List Value → List Value
-  solutionTransposed S b = tabulate (S .n) (productTransposed N (S .n) (S .L) (forwardSubstitution (S .U) (entry N b) (S .n)))
+  unfoldable pub solutionTranspose : State Value → List Value → List Value
+  solutionTranspose S b = tabulate (S .n) (productTransposed N (S .n) (S .L) (forwardSubstitution (S .U) (entry N b) (S .n)))
 
   -- 9 for a zero on the diagonal, 10 for an infinity or a NaN, with the index
   abbrev pub badDiagonal : Value → ℕ → Option Answer

@@ -7,7 +7,7 @@ use Prim.Native.Nat.{ℕ, _+_, _≤_}
 use native.Mathlib.Omega.{arith}
 use Rattle.numbers.specs.NumberForm.{NumberForm}
 use Rattle.machine.specs.Tables.{State}
-use Rattle.machine.specs.Calls.{Call, push, replaceRow, replaceColumn, remove, solve, solveTransposed, Answer, isPush}
+use Rattle.machine.specs.Calls.{Call, push, replaceRow, replaceColumn, remove, solve, solveTranspose, Answer, isPush}
 use Rattle.machine.specs.Machine.{refusal, accepted, stepUnder, step}
 use Rattle.machine.specs.Counts.{count}
 use Rattle.machine.specs.Agreement.{Agree, Same, AgreeCounted, SameCounted}
@@ -47,7 +47,7 @@ module _ (N : NumberForm) (E T : N .Value) where
   accepted-grows S (replaceColumn k column) = omega arith
   accepted-grows S (remove r k) = omega arith
   accepted-grows S (solve b) = omega arith
-  accepted-grows S (solveTransposed b) = omega arith
+  accepted-grows S (solveTranspose b) = omega arith
 
   step-grows : (S : State Value) (c : Call Value) → step N E T S c .after .n ≤ S .n + cond (isPush c) 1 0
   unfolding step stepUnder

@@ -11,7 +11,7 @@ use lib.ListN.{length}
 use borrow.Author.Tests.{eq-eqb}
 use Rattle.numbers.specs.NumberForm.{NumberForm}
 use Rattle.machine.specs.Tables.{State}
-use Rattle.machine.specs.Calls.{Call, push, replaceRow, replaceColumn, remove, solve, solveTransposed, Answer, Result, given, isPush, isUpdate}
+use Rattle.machine.specs.Calls.{Call, push, replaceRow, replaceColumn, remove, solve, solveTranspose, Answer, Result, given, isPush, isUpdate}
 use Rattle.machine.specs.Machine.{accepted, stepUnder}
 use Rattle.machine.specs.Counts.{acceptedCount}
 use Rattle.machine.specs.Agreement.{Agree, AgreeCounted}
@@ -88,7 +88,7 @@ module _ (N : NumberForm) (E T : N .Value) where
   solve-stands S (replaceColumn k column) h = absurd (true≢false h)
   solve-stands S (remove r k) h = absurd (true≢false h)
   solve-stands S (solve b) h = refl
-  solve-stands S (solveTransposed b) h = refl
+  solve-stands S (solveTranspose b) h = refl
 
   pub every-call : (s : Instance Value) (c : Call Value) → Met s c
   every-call s c = go (refusalAt N s c) refl (isUpdate c) refl

@@ -8,7 +8,7 @@ use native.Mathlib.Nat.{add-zero}
 use lib.ListN.{length}
 use Rattle.numbers.specs.NumberForm.{NumberForm}
 use Rattle.machine.specs.Solves.{diagonals}
-use Rattle.machine.specs.Calls.{push, replaceRow, replaceColumn, remove, solve, solveTransposed, Answer, refused, _orElse_}
+use Rattle.machine.specs.Calls.{push, replaceRow, replaceColumn, remove, solve, solveTranspose, Answer, refused, _orElse_}
 use Rattle.machine.specs.Machine.{pushTests, replacementTests, removeTests, solveTests, refusal}
 use Rattle.machine.proofs.Refusals.{or-else-none, equations-hold, equation-holds, index-within}
 use Rattle.storage.specs.Views.{viewU}
@@ -45,10 +45,10 @@ module _ (N : NumberForm) (v : StateValue) (l u rhs : List (N .Value)) where
   unfolding refusalAt refusal
   solve-tested = refl
 
-  pub transposed-tested : refusalAt N (lentToSolve v l u) (solveTransposed rhs)
+  pub transpose-tested : refusalAt N (lentToSolve v l u) (solveTranspose rhs)
       ≡ solveTestsAt (v .n) (v .capacity) (length l) (length u) (solveTests (v .n) (length rhs) orElse diagonals N (viewU N (v .capacity) u) (v .n))
   unfolding refusalAt refusal
-  transposed-tested = refl
+  transpose-tested = refl
 
 -- ---- all passed
 

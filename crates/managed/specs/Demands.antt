@@ -11,7 +11,7 @@ use Rattle.numbers.specs.NumberForm.{NumberForm, ieee}
 use Rattle.numbers.specs.Tolerances.{managedEpsilon, managedTiny}
 use Rattle.machine.specs.Tables.{Table}
 use Rattle.machine.specs.Solves.{badDiagonal, diagonals}
-use Rattle.machine.specs.Calls.{Call, solve, solveTransposed, Answer, numberOf, given}
+use Rattle.machine.specs.Calls.{Call, solve, solveTranspose, Answer, numberOf, given}
 use Rattle.machine.specs.Machine.{accepted}
 use Rattle.machine.specs.Counts.{acceptedCount, countLimit, countMost}
 use Rattle.machine.specs.Counter.{counterAfter, CountedState}
@@ -52,7 +52,7 @@ module _ (F : Format) where
     pub solve-refused : (v : StateValue) (l u b : List Float) → storageTests (v .n) (v .capacity) (length l) (length u) ≡ none → length b ≡ v .n
         → RefusedByDiagonal (ieee F) (viewU (ieee F) (v .capacity) u) (v .n) (refusalAt (ieee F) (lentToSolve v l u) (solve b))
     pub transpose-solve-refused : (v : StateValue) (l u b : List Float) → storageTests (v .n) (v .capacity) (length l) (length u) ≡ none → length b ≡ v .n
-        → RefusedByDiagonal (ieee F) (viewU (ieee F) (v .capacity) u) (v .n) (refusalAt (ieee F) (lentToSolve v l u) (solveTransposed b))
+        → RefusedByDiagonal (ieee F) (viewU (ieee F) (v .capacity) u) (v .n) (refusalAt (ieee F) (lentToSolve v l u) (solveTranspose b))
 
   -- ---- the counter
 

@@ -9,7 +9,7 @@ use lib.Dec.{ltb, eqb}
 use lib.ListN.{length, replicate}
 use lib.Ieee.{Float, nan, binary64, eq, ofBits}
 use Rattle.numbers.specs.NumberForm.{NumberForm, nearest, ieee, whole}
-use Rattle.machine.specs.Calls.{Call, push, replaceRow, replaceColumn, remove, solve, solveTransposed, Answer, refused, refusedAt, _orElse_, refuseIf, isPush, isUpdate}
+use Rattle.machine.specs.Calls.{Call, push, replaceRow, replaceColumn, remove, solve, solveTranspose, Answer, refused, refusedAt, _orElse_, refuseIf, isPush, isUpdate}
 use Rattle.machine.specs.Solves.{diagonals}
 use Rattle.machine.specs.Machine.{refusal}
 use Rattle.storage.specs.Places.{lLength, uLength, overflows, uIndex}
@@ -160,9 +160,9 @@ pub record RefusalOrder : Type 0 where
   solve-three-before-seven : refuses (lent (whole 1) 1 2 5 3 0 0 0) (solve []) ≡ some (refused 3)
   solve-seven-before-nine : refuses (lent (whole 0) 1 2 6 3 0 0 0) (solve []) ≡ some (refused 7)
   solve-nine : refuses (lent (whole 0) 1 2 6 3 0 0 0) (solve one) ≡ some (refusedAt 9 0)
-  transposed-three-before-seven : refuses (lent (whole 1) 1 2 5 3 0 0 0) (solveTransposed []) ≡ some (refused 3)
-  transposed-seven-before-ten : refuses (lent nan 1 2 6 3 0 0 0) (solveTransposed []) ≡ some (refused 7)
-  transposed-ten : refuses (lent nan 1 2 6 3 0 0 0) (solveTransposed one) ≡ some (refusedAt 10 0)
+  transpose-three-before-seven : refuses (lent (whole 1) 1 2 5 3 0 0 0) (solveTranspose []) ≡ some (refused 3)
+  transpose-seven-before-ten : refuses (lent nan 1 2 6 3 0 0 0) (solveTranspose []) ≡ some (refused 7)
+  transpose-ten : refuses (lent nan 1 2 6 3 0 0 0) (solveTranspose one) ≡ some (refusedAt 10 0)
   solve-accepted : refuses (lent (whole 1) 1 2 6 3 0 1 2) (solve one) ≡ none
 
 pub refusalOrder : RefusalOrder
@@ -198,8 +198,8 @@ refusalOrder = record {
   solve-three-before-seven = refl;
   solve-seven-before-nine = refl;
   solve-nine = refl;
-  transposed-three-before-seven = refl;
-  transposed-seven-before-ten = refl;
-  transposed-ten = refl;
+  transpose-three-before-seven = refl;
+  transpose-seven-before-ten = refl;
+  transpose-ten = refl;
   solve-accepted = refl;
 }

@@ -80,7 +80,7 @@ pub extern "C" fn lumod_solve_transpose(
     rhs: &mut [f64],
     index: &mut usize,
 ) -> u32
-    ensures { λ r. ⌜ SolveReturned binary64 (calls.solveTransposed (now (rhs .entry))) n c (now (l .entry)) (now (u .entry)) (now (l .exit)) (now (rhs .exit))
+    ensures { λ r. ⌜ SolveReturned binary64 (calls.solveTranspose (now (rhs .entry))) n c (now (l .entry)) (now (u .entry)) (now (l .exit)) (now (rhs .exit))
         (λ a. now (index .exit) ≡ indexAfter a (now (index .entry))) r ⌝ }
 {
     let state = LuMod {

@@ -8,8 +8,8 @@ use lib.ListN.{length}
 use Rattle.numbers.specs.NumberForm.{NumberForm}
 use Rattle.machine.specs.Tables.{Vector, tabulate}
 use Rattle.machine.specs.Products.{entry, product, productTransposed}
-use Rattle.machine.specs.Solves.{backSubstitution, forwardSubstitution, solution, solutionTransposed}
-use Rattle.machine.specs.Calls.{solve, solveTransposed, done}
+use Rattle.machine.specs.Solves.{backSubstitution, forwardSubstitution, solution, solutionTranspose}
+use Rattle.machine.specs.Calls.{solve, solveTranspose, done}
 use Rattle.machine.specs.Machine.{accepted}
 use Rattle.machine.specs.Counts.{acceptedCount}
 use Rattle.machine.proofs.Choice.{listed}
@@ -37,8 +37,8 @@ module _ (N : NumberForm) where
     unfolding accepted acceptedCount solution
     solve-outcome e h = outcome-solved N E T v l u kept (solve b) refl e within refl (whole long h) refl refl
 
-    pub transposed-outcome : refusalAt N (lentToSolve v l u) (solveTransposed b) ≡ none
+    pub transpose-outcome : refusalAt N (lentToSolve v l u) (solveTranspose b) ≡ none
         → Written N (λ i. i) (v .n) (productTransposed N (v .n) (viewL N (v .capacity) l) (forwardSubstitution N (viewU N (v .capacity) u) (entry N b) (v .n))) b b′
-        → Outcome N E T (solveTransposed b) (lentToSolve v l u) (lentToSolve v l′ u) (report done b′ 0)
-    unfolding accepted acceptedCount solutionTransposed
-    transposed-outcome e h = outcome-solved N E T v l u kept (solveTransposed b) refl e within refl (whole long h) refl refl
+        → Outcome N E T (solveTranspose b) (lentToSolve v l u) (lentToSolve v l′ u) (report done b′ 0)
+    unfolding accepted acceptedCount solutionTranspose
+    transpose-outcome e h = outcome-solved N E T v l u kept (solveTranspose b) refl e within refl (whole long h) refl refl

@@ -4,7 +4,6 @@ ghost use Rattle.machine.specs.Calls as calls;
 ghost use Rattle.managed_solves.specs.Attempted.{Attempted};
 use refusals::Test;
 use refusals::test_solve;
-use solves::solve_transposed;
 
 // Solves with the matrix: 7, then the diagonal of U.
 pub fn solve(n: usize, capacity: usize, l: &mut [f64], u: &[f64], rhs: &mut [f64]) -> Test
@@ -20,12 +19,12 @@ pub fn solve(n: usize, capacity: usize, l: &mut [f64], u: &[f64], rhs: &mut [f64
 
 // The same with the matrix transposed.
 pub fn solve_transpose(n: usize, capacity: usize, l: &mut [f64], u: &[f64], rhs: &mut [f64]) -> Test
-    ensures { λ r. ⌜ Attempted binary64 (calls.solveTransposed (now (rhs .entry))) n capacity r (now (l .entry)) (now (u .entry)) (now (l .exit)) (now (rhs .exit)) ⌝ }
+    ensures { λ r. ⌜ Attempted binary64 (calls.solveTranspose (now (rhs .entry))) n capacity r (now (l .entry)) (now (u .entry)) (now (l .exit)) (now (rhs .exit)) ⌝ }
 {
     let test = test_solve(n, capacity, l.len(), u, rhs.len());
     if let Test::Refused(_) = test {
         return test;
     }
-    solve_transposed(n, capacity, l, u, rhs);
+    solves::solve_transpose(n, capacity, l, u, rhs);
     test
 }

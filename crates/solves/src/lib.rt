@@ -47,7 +47,7 @@ pub fn solve(n: usize, capacity: usize, l: &mut [f64], u: &[f64], b: &mut [f64])
 }
 
 // Solves with A transposed: forward substitution, then the transposed L product. No diagonal is tested.
-pub fn solve_transposed(n: usize, capacity: usize, l: &mut [f64], u: &[f64], b: &mut [f64])
+pub fn solve_transpose(n: usize, capacity: usize, l: &mut [f64], u: &[f64], b: &mut [f64])
     requires { ⌜ (n ≤ capacity) × ((capacity < 2 ^ 32) × ((lLength capacity ≤ length (now l)) × ((uLength capacity ≤ length (now u)) × (n ≤ length (now b))))) ⌝ }
     ensures { λ _. ⌜ Written (ieee binary64) (λ i. i) n (productTransposed (ieee binary64) n (viewL (ieee binary64) capacity (now (l .entry))) (forwardSubstitution (ieee binary64) (viewU (ieee binary64) capacity (now (u .entry))) (entry (ieee binary64) (now (b .entry))) n)) (now (b .entry)) (now (b .exit))
         × Kept (ieee binary64) (WorkPlace capacity n) (now (l .entry)) (now (l .exit)) ⌝ }

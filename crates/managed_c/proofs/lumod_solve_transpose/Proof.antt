@@ -7,7 +7,7 @@ use Rattle.numbers.specs.NumberForm.{ieee}
 use Rattle.numbers.specs.Tolerances.{managedEpsilon, managedTiny}
 use Rattle.machine.specs.Calls as calls
 use Rattle.managed.specs.Instance.{stateValue, lentToSolve}
-use Rattle.answers.proofs.Returns.{returned-solved, transposed-stays}
+use Rattle.answers.proofs.Returns.{returned-solved, transpose-stays}
 use Rattle.managed_c.proofs.lumod_solve_transpose.Statement.{statement}
 use Rattle.managed_c.proofs.lumod_solve_transpose.Tie as tie
 
@@ -32,7 +32,7 @@ returns c =
     let start : tie.Start = search in
     let a = start .args in
     let s = lentToSolve (stateValue (a .n) (a .c) 0) (now (a .l)) (now (a .u)) in
-    returned-solved binary64 (calls.solveTransposed (now (a .rhs))) s (t .solve-transpose-in-place .ensures) (c .answer-number .ensures) (c .before .named-index .ensures) (transposed-stays (ieee binary64) (managedEpsilon binary64) (managedTiny binary64) (now (a .rhs)) s) refl
+    returned-solved binary64 (calls.solveTranspose (now (a .rhs))) s (t .solve-transpose-in-place .ensures) (c .answer-number .ensures) (c .before .named-index .ensures) (transpose-stays (ieee binary64) (managedEpsilon binary64) (managedTiny binary64) (now (a .rhs)) s) refl
 
 pub lumod-solve-transpose-spec : {M : Type 1} → statement M
 lumod-solve-transpose-spec =

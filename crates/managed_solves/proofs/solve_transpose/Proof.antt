@@ -9,9 +9,9 @@ use Rattle.numbers.specs.Tolerances.{managedEpsilon, managedTiny}
 use Rattle.machine.specs.Calls as calls
 use Rattle.managed.specs.Instance.{stateValue, lentToSolve}
 use Rattle.managed.proofs.Outcomes.{outcome-refused}
-use Rattle.managed.proofs.Tested.{transposed-tested, solve-passed}
+use Rattle.managed.proofs.Tested.{transpose-tested, solve-passed}
 use Rattle.refusals.proofs.Chain.{passed-none, refused-some}
-use Rattle.managed_solves.proofs.Solved.{transposed-outcome}
+use Rattle.managed_solves.proofs.Solved.{transpose-outcome}
 use Rattle.managed_solves.proofs.solve_transpose.Statement.{statement}
 use Rattle.managed_solves.proofs.solve_transpose.Tie as tie
 
@@ -31,14 +31,14 @@ returns c counter =
     let a = start .args in
     let v = stateValue (a .n) (a .capacity) counter in
     rw (c .enum-told .given .1)
-    (outcome-refused N (managedEpsilon binary64) (managedTiny binary64) (calls.solveTransposed (now (a .rhs))) (lentToSolve v (now (a .l)) (now (a .u)))
-    (transposed-tested N v (now (a .l)) (now (a .u)) (now (a .rhs)) ∙ refused-some (t .test-solve .ensures) _ (c .enum-told .given .1)))
+    (outcome-refused N (managedEpsilon binary64) (managedTiny binary64) (calls.solveTranspose (now (a .rhs))) (lentToSolve v (now (a .l)) (now (a .u)))
+    (transpose-tested N v (now (a .l)) (now (a .u)) (now (a .rhs)) ∙ refused-some (t .test-solve .ensures) _ (c .enum-told .given .1)))
 
 enum-told-2 : tie.Need-enum-told-2
 enum-told-2 c = search needs
 
-solve-transposed-requires : tie.Need-solve-transposed-requires
-solve-transposed-requires c κs =
+solve-transpose-requires : tie.Need-solve-transpose-requires
+solve-transpose-requires c κs =
     let e : tie.After-enum-told2 = search in
     let t : tie.After-test-solve = search in
     let r = solve-passed _ _ _ _ _ _ (passed-none (t .test-solve .ensures) (e .enum-told2 .given .1)) in
@@ -53,7 +53,7 @@ same-length-2 c = search needs
 
 returns-2 : tie.Need-returns-2
 returns-2 c counter =
-    let s : tie.After-solve-transposed = search in
+    let s : tie.After-solve-transpose = search in
     let e : tie.After-enum-told2 = search in
     let t : tie.After-test-solve = search in
     let start : tie.Start = search in
@@ -62,10 +62,10 @@ returns-2 c counter =
     let none-refused = passed-none (t .test-solve .ensures) (e .enum-told2 .given .1) in
     let r = solve-passed _ _ _ _ _ _ none-refused in
     rw (e .enum-told2 .given .1)
-    (transposed-outcome N (managedEpsilon binary64) (managedTiny binary64) v (now (a .l)) (now (a .u)) (now (a .rhs)) (s .solve-transposed .ensures .1) (r .0 .dimension) (r .1)
-    (transposed-tested N v (now (a .l)) (now (a .u)) (now (a .rhs)) ∙ none-refused) (s .solve-transposed .ensures .0))
+    (transpose-outcome N (managedEpsilon binary64) (managedTiny binary64) v (now (a .l)) (now (a .u)) (now (a .rhs)) (s .solve-transpose .ensures .1) (r .0 .dimension) (r .1)
+    (transpose-tested N v (now (a .l)) (now (a .u)) (now (a .rhs)) ∙ none-refused) (s .solve-transpose .ensures .0))
 
 pub solve-transpose-spec : {M : Type 1} → statement M
 solve-transpose-spec =
     tie.close
-    (tie.spec test-solve-requires enum-told returns enum-told-2 solve-transposed-requires same-length same-length-2 returns-2)
+    (tie.spec test-solve-requires enum-told returns enum-told-2 solve-transpose-requires same-length same-length-2 returns-2)

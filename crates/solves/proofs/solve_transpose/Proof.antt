@@ -1,4 +1,4 @@
--- `solve_transposed`: forward substitution, and the product of what it left.
+-- `solve_transpose`: forward substitution, and the product of what it left.
 use borrow.Author.Needs.{needs}
 use denote.Ref.{now}
 use lib.Ieee.{binary64}
@@ -6,8 +6,8 @@ use Rattle.numbers.specs.NumberForm.{ieee}
 use Rattle.machine.proofs.Products.{product-transposed-same}
 use Rattle.storage.specs.Views.{viewL}
 use Rattle.ranges.proofs.Vectors.{written-as, written-over}
-use Rattle.solves.proofs.solve_transposed.Statement.{statement}
-use Rattle.solves.proofs.solve_transposed.Tie as tie
+use Rattle.solves.proofs.solve_transpose.Statement.{statement}
+use Rattle.solves.proofs.solve_transpose.Tie as tie
 
 forward-substitute-requires : tie.Need-forward-substitute-requires
 forward-substitute-requires c κs = search needs
@@ -31,8 +31,8 @@ returns c =
     let solved = f .forward-substitute .ensures in
     (written-over (ieee binary64) solved (written-as (ieee binary64) _ (product-transposed-same (ieee binary64) (a .n) L L _ _ (λ i j _ _ _. L i j) (solved .value)) (l .apply-l-transposed .ensures .0)), l .apply-l-transposed .ensures .1)
 
-pub solve-transposed-spec : {M : Type 1} → statement M
-solve-transposed-spec =
+pub solve-transpose-spec : {M : Type 1} → statement M
+solve-transpose-spec =
     tie.close
     (tie.spec
     forward-substitute-requires

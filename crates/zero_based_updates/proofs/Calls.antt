@@ -12,7 +12,7 @@ use Rattle.machine.proofs.Choice.{tabulate-at, within-state}
 use Rattle.machine.proofs.Updates.{pushed-same, column-replaced-same, row-replaced-same}
 use Rattle.storage.specs.Updated.{CarriedOut}
 use Rattle.storage.proofs.Frames.{updated-as}
-use Rattle.modes.specs.UpdateDone.{callOf, UpdateDone}
+use Rattle.zero_based_updates.specs.UpdateDone.{callOf, UpdateDone}
 
 module _ (N : NumberForm) where
   open NumberForm N using (Value, absent)

@@ -6,7 +6,7 @@ ghost use lib.Ieee.{binary64};
 ghost use Rattle.numbers.specs.NumberForm.{ieee};
 ghost use Rattle.numbers.specs.Tolerances.{zeroBasedEpsilon, zeroBasedTiny};
 ghost use Rattle.buffers.specs.Performed.{Room};
-ghost use Rattle.modes.specs.UpdateDone.{UpdateDone};
+ghost use Rattle.zero_based_updates.specs.UpdateDone.{UpdateDone};
 use numerics::tolerance::zero_based;
 use update_column::replace_column;
 use update_push::push;

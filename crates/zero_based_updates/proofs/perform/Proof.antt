@@ -5,9 +5,9 @@ use denote.Ref.{now}
 use lib.Ieee.{binary64}
 use Rattle.numbers.specs.NumberForm.{ieee}
 use Rattle.numbers.specs.Tolerances.{zeroBasedEpsilon, zeroBasedTiny}
-use Rattle.modes.proofs.Calls.{push-performed, column-performed, row-performed, remove-performed}
-use Rattle.modes.proofs.perform.Statement.{statement}
-use Rattle.modes.proofs.perform.Tie as tie
+use Rattle.zero_based_updates.proofs.Calls.{push-performed, column-performed, row-performed, remove-performed}
+use Rattle.zero_based_updates.proofs.perform.Statement.{statement}
+use Rattle.zero_based_updates.proofs.perform.Tie as tie
 
 -- The places before the mode is looked at.
 record Way : Type 0 where
