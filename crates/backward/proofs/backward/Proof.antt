@@ -4,7 +4,7 @@ use mathlib.Core.Path.{_∙_}
 use Prim.Native.Nat.{_-_}
 use native.Mathlib.Omega.{arith}
 use lib.Ieee.{binary64}
-use Rattle.numbers.specs.NumberForm.{ieee}
+use Rattle.numbers.specs.NumberForm.{NumberForm, ieee}
 use Rattle.machine.specs.Backward.{backward}
 use Rattle.machine.specs.Counts.{backwardCount}
 use Rattle.machine.proofs.Choice.{within-from}
@@ -15,6 +15,9 @@ use Rattle.buffers.proofs.Buffers.{performed-then}
 use Rattle.backward.proofs.Rows.{row-copied}
 use Rattle.backward.proofs.backward.Statement.{statement}
 use Rattle.backward.proofs.backward.Tie as tie
+
+abbrev N : NumberForm
+N = ieee binary64
 
 -- The places before the rows.
 record Way : Type 0 where
@@ -74,12 +77,12 @@ returns c =
     let a = way t .start .args in
     let p = way t .start .pre in
     let d = way t .index .u-index in
-    let copied = row-copied (ieee binary64) (a .stride) (a .n) (a .columns) (a .selected) (d .result) _ _ _ _ (omega arith) (omega arith) (omega arith) (d .ensures .0) (t .copy .ensures) in (
-      performed-then (ieee binary64)
+    let copied = row-copied N (a .stride) (a .n) (a .columns) (a .selected) (d .result) _ _ _ _ (omega arith) (omega arith) (omega arith) (d .ensures .0) (t .copy .ensures) in (
+      performed-then N
           copied
           (backward-rows .ensures .0) (omega arith)
-          (λ S R h. within-from (omega arith) (backward-rows-same (ieee binary64) (a .numerics .epsilon) (a .numerics .tiny) (a .n) (a .columns) (omega arith) (a .selected) (a .selected - a .first) (omega arith) (omega arith) h)),
-      backward-rows .ensures .1 ∙ backward-rows-count-same (ieee binary64) (a .numerics .epsilon) (a .numerics .tiny) (a .n) (a .columns) (omega arith) (a .selected) (a .selected - a .first) (omega arith) (omega arith) (copied .agree),
+          (λ S R h. within-from (omega arith) (backward-rows-same N (a .numerics .epsilon) (a .numerics .tiny) (a .n) (a .columns) (omega arith) (a .selected) (a .selected - a .first) (omega arith) (omega arith) h)),
+      backward-rows .ensures .1 ∙ backward-rows-count-same N (a .numerics .epsilon) (a .numerics .tiny) (a .n) (a .columns) (omega arith) (a .selected) (a .selected - a .first) (omega arith) (omega arith) (copied .agree),
     )
 
 pub backward-spec : {M : Type 1} → statement M

@@ -4,7 +4,7 @@ use Prim.Native.Nat.{_-_, _≤_}
 use native.Mathlib.Omega.{arith}
 use lib.Ieee.{binary64}
 use denote.Ref.{now}
-use Rattle.numbers.specs.NumberForm.{ieee}
+use Rattle.numbers.specs.NumberForm.{NumberForm, ieee}
 use Rattle.machine.specs.Backward.{backwardRow, backwardRows}
 use Rattle.machine.specs.Counts.{backwardRowsCount}
 use Rattle.machine.proofs.Backward.{backward-row-same}
@@ -14,15 +14,18 @@ use Rattle.backward.proofs.Rows.{row-counted-le, rows-counted-le, backw
 use Rattle.backward.proofs.backward_rows.Statement.{statement}
 use Rattle.backward.proofs.backward_rows.Tie as tie
 
+abbrev N : NumberForm
+N = ieee binary64
+
 abbrev Inv-loop : tie.InvT-loop
-Inv-loop first selected n columns stride l₀ u₀ y₀ v₀ numerics steps₀ row₀ l u y v steps row = (first ≤ row) × ((row ≤ selected) × (Performed (ieee binary64) stride n row columns n (backwardRows (ieee binary64) (numerics .epsilon) (numerics .tiny) selected columns (selected - row)) l₀ u₀ y₀ v₀ l u y v
-    × (steps ≡ backwardRowsCount (ieee binary64) (numerics .epsilon) (numerics .tiny) selected columns (selected - row) (workOf (ieee binary64) stride l₀ u₀ y₀ v₀))))
+Inv-loop first selected n columns stride l₀ u₀ y₀ v₀ numerics steps₀ row₀ l u y v steps row = (first ≤ row) × ((row ≤ selected) × (Performed N stride n row columns n (backwardRows N (numerics .epsilon) (numerics .tiny) selected columns (selected - row)) l₀ u₀ y₀ v₀ l u y v
+    × (steps ≡ backwardRowsCount N (numerics .epsilon) (numerics .tiny) selected columns (selected - row) (workOf N stride l₀ u₀ y₀ v₀))))
 
 abbrev μ-loop : tie.MeasureT-loop
 μ-loop first selected n columns stride l₀ u₀ y₀ v₀ numerics steps₀ row₀ l u y v steps row = row
 
 loop-holds : tie.Need-loop-holds Inv-loop μ-loop
-loop-holds c = (omega arith, (omega arith, (performed-as (ieee binary64) (λ S. S) (backward-rows-none (ieee binary64) _ _ _ _ _) (performed-none (ieee binary64)), backward-count-none (ieee binary64) _ _ _ _ _)))
+loop-holds c = (omega arith, (omega arith, (performed-as N (λ S. S) (backward-rows-none N _ _ _ _ _) (performed-none N), backward-count-none N _ _ _ _ _)))
 
 sub-row : tie.Need-sub-row Inv-loop μ-loop
 sub-row c = omega arith
@@ -31,7 +34,7 @@ backward-row-requires : tie.Need-backward-row-requires Inv-loop μ-loop
 backward-row-requires c κs =
     let p = let s : tie.Start Inv-loop μ-loop = search in s .pre in
     let k = let t : tie.At-loop Inv-loop μ-loop = search in t .loop .inv .1 .1 .0 .frame in (
-      room-kept (ieee binary64) (p .0) (k .l-kept .long) (k .u-kept .long),
+      room-kept N (p .0) (k .l-kept .long) (k .u-kept .long),
       (rw (k .y-kept .long) (p .1 .0), (rw (k .w-kept .long) (p .1 .1 .0), omega arith)),
     )
 
@@ -42,8 +45,8 @@ add-steps c =
     let row = let t : tie.After-backward-row Inv-loop μ-loop = search in t .backward-row in
     let a = start .args in
     let p = start .pre in
-    let k = rows-counted-le (ieee binary64) (a .numerics .epsilon) (a .numerics .tiny) _ _ _ _ (loop .inv .1 .1 .1) in
-    let r = row-counted-le (ieee binary64) (a .numerics .epsilon) (a .numerics .tiny) _ (a .columns) _ _ (row .ensures .1) in
+    let k = rows-counted-le N (a .numerics .epsilon) (a .numerics .tiny) _ _ _ _ (loop .inv .1 .1 .1) in
+    let r = row-counted-le N (a .numerics .epsilon) (a .numerics .tiny) _ (a .columns) _ _ (row .ensures .1) in
     omega (arith, k, r)
 
 loop-less : tie.Need-loop-less Inv-loop μ-loop
@@ -60,12 +63,12 @@ loop-again c =
       (
         omega arith,
         (
-          performed-as (ieee binary64)
-              (λ S. backwardRow (ieee binary64) (a .numerics .epsilon) (a .numerics .tiny) (a .selected) (a .columns) (loop .row - 1) (backwardRows (ieee binary64) (a .numerics .epsilon) (a .numerics .tiny) (a .selected) (a .columns) (a .selected - loop .row) S))
-              (backward-rows-more (ieee binary64) (a .numerics .epsilon) (a .numerics .tiny) (a .selected) (a .columns) (loop .row) _ (omega arith) (h .1 .0))
-              (performed-then (ieee binary64) (h .1 .1 .0) (backward-row .ensures .0) (omega arith)
-              (λ S R. backward-row-same (ieee binary64) (a .numerics .epsilon) (a .numerics .tiny) (a .n) (a .columns) (omega arith) (a .selected) (loop .row - 1) (loop .row) (omega arith) (omega arith) (omega arith))),
-          backward-count-more (ieee binary64) (a .numerics .epsilon) (a .numerics .tiny) (a .selected) (a .columns) (a .n) (loop .row) _ (omega arith) (omega arith) (h .1 .0) (omega arith) (h .1 .1 .1) (h .1 .1 .0 .agree) (backward-row .ensures .1),
+          performed-as N
+              (λ S. backwardRow N (a .numerics .epsilon) (a .numerics .tiny) (a .selected) (a .columns) (loop .row - 1) (backwardRows N (a .numerics .epsilon) (a .numerics .tiny) (a .selected) (a .columns) (a .selected - loop .row) S))
+              (backward-rows-more N (a .numerics .epsilon) (a .numerics .tiny) (a .selected) (a .columns) (loop .row) _ (omega arith) (h .1 .0))
+              (performed-then N (h .1 .1 .0) (backward-row .ensures .0) (omega arith)
+              (λ S R. backward-row-same N (a .numerics .epsilon) (a .numerics .tiny) (a .n) (a .columns) (omega arith) (a .selected) (loop .row - 1) (loop .row) (omega arith) (omega arith) (omega arith))),
+          backward-count-more N (a .numerics .epsilon) (a .numerics .tiny) (a .selected) (a .columns) (a .n) (loop .row) _ (omega arith) (omega arith) (h .1 .0) (omega arith) (h .1 .1 .1) (h .1 .1 .0 .agree) (backward-row .ensures .1),
         ),
       ),
     )

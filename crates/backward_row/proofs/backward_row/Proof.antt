@@ -6,7 +6,7 @@ use native.Mathlib.Omega.{arith}
 use lib.Ieee.{binary64}
 use lib.ListN.{length, length-set}
 use denote.Ref.{now}
-use Rattle.numbers.specs.NumberForm.{ieee}
+use Rattle.numbers.specs.NumberForm.{NumberForm, ieee}
 use Rattle.machine.specs.Backward.{clearDense, backwardTransform}
 use Rattle.machine.proofs.Backward.{backward-transform-same}
 use Rattle.storage.proofs.Places.{row-before, row-fits}
@@ -15,6 +15,9 @@ use Rattle.buffers.proofs.Buffers.{performed-then, performed-as, performed-from
 use Rattle.backward_row.proofs.RowEliminated.{dense-cleared, backward-transformed, backward-skips, backward-acts, backward-skips-counted, backward-acts-counted}
 use Rattle.backward_row.proofs.backward_row.Statement.{statement}
 use Rattle.backward_row.proofs.backward_row.Tie as tie
+
+abbrev N : NumberForm
+N = ieee binary64
 
 -- The places up to the guard's test.
 record Tested : Type 0 where
@@ -68,10 +71,10 @@ returns c =
     let m : tie.After-abs2 = search in
     let a = tested m .start .args in
     let p = tested m .start .pre in (
-      performed-as (ieee binary64) (clearDense (ieee binary64) (a .row))
-          (backward-skips (ieee binary64) (a .numerics .epsilon) (a .numerics .tiny) (a .stride) (a .row) (a .selected) (a .columns) (now (a .l)) (now (a .u)) (now (a .y)) (now (a .v)) (m .abs2 .ensures) (tested m .value .abs .ensures) (c .if1 .taken))
-          (performed-from (ieee binary64) (omega arith) (dense-cleared (ieee binary64) (a .stride) (a .n) (a .columns) (a .row) (a .n) _ _ _ _ (omega arith) (omega arith) (omega arith))),
-      backward-skips-counted (ieee binary64) (a .numerics .epsilon) (a .numerics .tiny) (a .stride) (a .row) (a .selected) (a .columns) (now (a .l)) (now (a .u)) (now (a .y)) (now (a .v)) (m .abs2 .ensures) (tested m .value .abs .ensures) (c .if1 .taken),
+      performed-as N (clearDense N (a .row))
+          (backward-skips N (a .numerics .epsilon) (a .numerics .tiny) (a .stride) (a .row) (a .selected) (a .columns) (now (a .l)) (now (a .u)) (now (a .y)) (now (a .v)) (m .abs2 .ensures) (tested m .value .abs .ensures) (c .if1 .taken))
+          (performed-from N (omega arith) (dense-cleared N (a .stride) (a .n) (a .columns) (a .row) (a .n) _ _ _ _ (omega arith) (omega arith) (omega arith))),
+      backward-skips-counted N (a .numerics .epsilon) (a .numerics .tiny) (a .stride) (a .row) (a .selected) (a .columns) (now (a .l)) (now (a .u)) (now (a .y)) (now (a .v)) (m .abs2 .ensures) (tested m .value .abs .ensures) (c .if1 .taken),
     )
 
 elementary-requires : tie.Need-elementary-requires
@@ -173,15 +176,15 @@ returns-2 c =
     let p = tested (acted r .pivot) .start .pre in
     let d = acted r .index .u-index in
     let s = acted r .pair .elementary in (
-      performed-as (ieee binary64) (λ S. backwardTransform (ieee binary64) (a .selected) (a .columns) (a .row) _ (clearDense (ieee binary64) (a .row) S))
-          (backward-acts (ieee binary64) (a .numerics .epsilon) (a .numerics .tiny) (a .stride) (a .row) (a .selected) (a .columns) (now (a .l)) (now (a .u)) (now (a .y)) (now (a .v)) (acted r .pivot .abs2 .ensures) (tested (acted r .pivot) .value .abs .ensures) (acted r .guard .if1 .left) (s .ensures .step))
-          (performed-then (ieee binary64) (performed-from (ieee binary64) (omega arith) (dense-cleared (ieee binary64) (a .stride) (a .n) (a .columns) (a .row) (a .n) _ _ _ _ (omega arith) (omega arith) (omega arith)))
-          (backward-transformed (ieee binary64) (a .stride) (a .n) (a .columns) (a .row) (a .selected) (d .result) _ _ _ _ _ _ _ _
+      performed-as N (λ S. backwardTransform N (a .selected) (a .columns) (a .row) _ (clearDense N (a .row) S))
+          (backward-acts N (a .numerics .epsilon) (a .numerics .tiny) (a .stride) (a .row) (a .selected) (a .columns) (now (a .l)) (now (a .u)) (now (a .y)) (now (a .v)) (acted r .pivot .abs2 .ensures) (tested (acted r .pivot) .value .abs .ensures) (acted r .guard .if1 .left) (s .ensures .step))
+          (performed-then N (performed-from N (omega arith) (dense-cleared N (a .stride) (a .n) (a .columns) (a .row) (a .n) _ _ _ _ (omega arith) (omega arith) (omega arith)))
+          (backward-transformed N (a .stride) (a .n) (a .columns) (a .row) (a .selected) (d .result) _ _ _ _ _ _ _ _
           (omega arith) (omega arith) (omega arith) (omega arith) (omega arith) (d .ensures .0) (omega arith) (s .ensures .cleared)
           (transform-slices .ensures .0) (transform-slices .ensures .1) (r .transform-rows .ensures))
           (omega arith)
-          (λ S R. backward-transform-same (ieee binary64) (a .numerics .epsilon) (a .numerics .tiny) (a .n) (a .columns) (omega arith) (a .selected) (a .row) refl (omega arith) (omega arith))),
-      backward-acts-counted (ieee binary64) (a .numerics .epsilon) (a .numerics .tiny) (a .stride) (a .row) (a .selected) (a .columns) (now (a .l)) (now (a .u)) (now (a .y)) (now (a .v)) (acted r .pivot .abs2 .ensures) (tested (acted r .pivot) .value .abs .ensures) (acted r .guard .if1 .left),
+          (λ S R. backward-transform-same N (a .numerics .epsilon) (a .numerics .tiny) (a .n) (a .columns) (omega arith) (a .selected) (a .row) refl (omega arith) (omega arith))),
+      backward-acts-counted N (a .numerics .epsilon) (a .numerics .tiny) (a .stride) (a .row) (a .selected) (a .columns) (now (a .l)) (now (a .u)) (now (a .y)) (now (a .v)) (acted r .pivot .abs2 .ensures) (tested (acted r .pivot) .value .abs .ensures) (acted r .guard .if1 .left),
     )
 
 pub backward-row-spec : {M : Type 1} → statement M

@@ -7,21 +7,24 @@ use native.Mathlib.Omega.{arith}
 use lib.Ieee.{binary64}
 use denote.Ref.{now}
 use borrow.Author.Tests.{not-true, not-false}
-use Rattle.numbers.specs.NumberForm.{ieee}
+use Rattle.numbers.specs.NumberForm.{NumberForm, ieee}
 use Rattle.machine.specs.Solves.{diagonals}
 use Rattle.storage.specs.Views.{viewU}
 use Rattle.diagonals.proofs.Search.{zero-found, non-finite-found, sound-found, none-searched}
 use Rattle.diagonals.proofs.test_diagonal.Statement.{statement}
 use Rattle.diagonals.proofs.test_diagonal.Tie as tie
 
+abbrev N : NumberForm
+N = ieee binary64
+
 abbrev Inv-loop : tie.InvT-loop
-Inv-loop n stride u i₀ i = (i ≤ n) × (diagonals (ieee binary64) (viewU (ieee binary64) stride u) i ≡ none)
+Inv-loop n stride u i₀ i = (i ≤ n) × (diagonals N (viewU N stride u) i ≡ none)
 
 abbrev μ-loop : tie.MeasureT-loop
 μ-loop n stride u i₀ i = n - i
 
 loop-holds : tie.Need-loop-holds Inv-loop μ-loop
-loop-holds c = (omega arith, none-searched (ieee binary64) (c .before .args .stride) (now (c .before .args .u)))
+loop-holds c = (omega arith, none-searched N (c .before .args .stride) (now (c .before .args .u)))
 
 u-index-requires : tie.Need-u-index-requires Inv-loop μ-loop
 u-index-requires c κs = omega arith
@@ -37,7 +40,7 @@ returns c =
     let u = let place : tie.After-u-index Inv-loop μ-loop = search in place .u-index in
     let loop = let l : tie.At-loop Inv-loop μ-loop = search in l .loop in
     let start : tie.Start Inv-loop μ-loop = search in
-    let h : loop .i < start .args .n = omega arith in zero-found (ieee binary64) (start .args .stride) (start .args .n) (loop .i) (u .result) (now (start .args .u)) (u .ensures .0) (loop .inv .1) h (c .if1 .taken)
+    let h : loop .i < start .args .n = omega arith in zero-found N (start .args .stride) (start .args .n) (loop .i) (u .result) (now (start .args .u)) (u .ensures .0) (loop .inv .1) h (c .if1 .taken)
 
 is-finite-requires : tie.Need-is-finite-requires Inv-loop μ-loop
 is-finite-requires c κs = search needs
@@ -48,7 +51,7 @@ returns-2 c =
     let u-index = let u : tie.After-u-index Inv-loop μ-loop = search in u .u-index in
     let loop = let l : tie.At-loop Inv-loop μ-loop = search in l .loop in
     let start : tie.Start Inv-loop μ-loop = search in
-    let h : loop .i < start .args .n = omega arith in non-finite-found (ieee binary64) (start .args .stride) (start .args .n) (loop .i) (u-index .result) (now (start .args .u)) (u-index .ensures .0) (loop .inv .1) h else1 (sym (c .before .is-finite .ensures) ∙ not-true _ (c .if2 .taken))
+    let h : loop .i < start .args .n = omega arith in non-finite-found N (start .args .stride) (start .args .n) (loop .i) (u-index .result) (now (start .args .u)) (u-index .ensures .0) (loop .inv .1) h else1 (sym (c .before .is-finite .ensures) ∙ not-true _ (c .if2 .taken))
 
 add-i : tie.Need-add-i Inv-loop μ-loop
 add-i c = omega arith
@@ -62,7 +65,7 @@ loop-again c =
     let u-index = let u : tie.After-u-index Inv-loop μ-loop = search in u .u-index in
     let loop = let l : tie.At-loop Inv-loop μ-loop = search in l .loop in
     let start : tie.Start Inv-loop μ-loop = search in
-    (omega arith, sound-found (ieee binary64) (start .args .stride) (start .args .n) (loop .i) (u-index .result) (now (start .args .u)) (u-index .ensures .0) (loop .inv .1) else1 (sym (c .before .is-finite .ensures) ∙ not-false _ (c .if2 .left)))
+    (omega arith, sound-found N (start .args .stride) (start .args .n) (loop .i) (u-index .result) (now (start .args .u)) (u-index .ensures .0) (loop .inv .1) else1 (sym (c .before .is-finite .ensures) ∙ not-false _ (c .if2 .left)))
 
 returns-3 : tie.Need-returns-3 Inv-loop μ-loop
 returns-3 c = let e : c .before .loop .i ≡ c .before .before .before .args .n = omega arith in sym (rw e at (c .before .loop .inv .1))

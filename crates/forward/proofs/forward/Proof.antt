@@ -5,7 +5,7 @@ use native.Mathlib.Omega.{arith}
 use lib.Ieee.{binary64}
 use denote.Ref.{now}
 use mathlib.Core.List.{[]}
-use Rattle.numbers.specs.NumberForm.{ieee}
+use Rattle.numbers.specs.NumberForm.{NumberForm, ieee}
 use Rattle.machine.specs.Forward.{forwardRow, forwardRows, forward}
 use Rattle.machine.specs.Counts.{forwardRowsCount, forwardCount}
 use Rattle.machine.proofs.Forward.{forward-row-same, copy-dense-same}
@@ -16,22 +16,25 @@ use Rattle.forward.proofs.Rows.{row-counted-le, rows-counted-le, forwar
 use Rattle.forward.proofs.forward.Statement.{statement}
 use Rattle.forward.proofs.forward.Tie as tie
 
+abbrev N : NumberForm
+N = ieee binary64
+
 abbrev Inv-loop : tie.InvT-loop
-Inv-loop first last n columns stride l₀ u₀ y₀ numerics steps₀ row₀ l u y steps row = (first ≤ row) × ((row ≤ last) × (Performed (ieee binary64) stride n 0 columns 0 (forwardRows (ieee binary64) (numerics .epsilon) (numerics .tiny) first last columns (row - first)) l₀ u₀ y₀ [] l u y []
-    × (steps ≡ forwardRowsCount (ieee binary64) (numerics .epsilon) (numerics .tiny) first last columns (row - first) (workOf (ieee binary64) stride l₀ u₀ y₀ []))))
+Inv-loop first last n columns stride l₀ u₀ y₀ numerics steps₀ row₀ l u y steps row = (first ≤ row) × ((row ≤ last) × (Performed N stride n 0 columns 0 (forwardRows N (numerics .epsilon) (numerics .tiny) first last columns (row - first)) l₀ u₀ y₀ [] l u y []
+    × (steps ≡ forwardRowsCount N (numerics .epsilon) (numerics .tiny) first last columns (row - first) (workOf N stride l₀ u₀ y₀ []))))
 
 abbrev μ-loop : tie.MeasureT-loop
 μ-loop first last n columns stride l₀ u₀ y₀ numerics steps₀ row₀ l u y steps row = last - row
 
 loop-holds : tie.Need-loop-holds Inv-loop μ-loop
-loop-holds c = (omega arith, (omega arith, (performed-as (ieee binary64) (λ S. S) (forward-rows-none (ieee binary64) _ _ _ _ _ _) (performed-none (ieee binary64)), forward-count-none (ieee binary64) _ _ _ _ _ _)))
+loop-holds c = (omega arith, (omega arith, (performed-as N (λ S. S) (forward-rows-none N _ _ _ _ _ _) (performed-none N), forward-count-none N _ _ _ _ _ _)))
 
 forward-row-requires : tie.Need-forward-row-requires Inv-loop μ-loop
 forward-row-requires c κs =
     let p = let s : tie.Start Inv-loop μ-loop = search in s .pre in
     let h = let t : tie.At-loop Inv-loop μ-loop = search in t .loop .inv in
     let k = h .1 .1 .0 .frame in (
-      room-kept (ieee binary64) (p .0) (k .l-kept .long) (k .u-kept .long),
+      room-kept N (p .0) (k .l-kept .long) (k .u-kept .long),
       (rw (k .y-kept .long) (p .1 .0), omega arith),
     )
 
@@ -42,8 +45,8 @@ add-steps c =
     let row = let t : tie.After-forward-row Inv-loop μ-loop = search in t .forward-row in
     let a = start .args in
     let p = start .pre in
-    let k = rows-counted-le (ieee binary64) (a .numerics .epsilon) (a .numerics .tiny) _ _ _ _ _ (loop .inv .1 .1 .1) in
-    let r = row-counted-le (ieee binary64) (a .numerics .epsilon) (a .numerics .tiny) (a .first) (a .last) (a .columns) _ _ (row .ensures .1) in
+    let k = rows-counted-le N (a .numerics .epsilon) (a .numerics .tiny) _ _ _ _ _ (loop .inv .1 .1 .1) in
+    let r = row-counted-le N (a .numerics .epsilon) (a .numerics .tiny) (a .first) (a .last) (a .columns) _ _ (row .ensures .1) in
     omega (arith, k, r)
 
 add-row : tie.Need-add-row Inv-loop μ-loop
@@ -63,12 +66,12 @@ loop-again c =
       (
         omega arith,
         (
-          performed-as (ieee binary64)
-              (λ S. forwardRow (ieee binary64) (a .numerics .epsilon) (a .numerics .tiny) (a .last) (a .columns) (loop .row) (forwardRows (ieee binary64) (a .numerics .epsilon) (a .numerics .tiny) (a .first) (a .last) (a .columns) (loop .row - a .first) S))
-              (forward-rows-more (ieee binary64) (a .numerics .epsilon) (a .numerics .tiny) (a .first) (a .last) (a .columns) (loop .row) _ (h .0))
-              (performed-then (ieee binary64) (h .1 .1 .0) (e .0) (omega arith)
-              (λ S R. forward-row-same (ieee binary64) (a .numerics .epsilon) (a .numerics .tiny) (a .n) (a .columns) 0 (omega arith) (a .last) (loop .row) 0 (omega arith) (omega arith) (omega arith))),
-          forward-count-more (ieee binary64) (a .numerics .epsilon) (a .numerics .tiny) (a .first) (a .last) (a .columns) (a .n) (loop .row) _ (omega arith) (h .0) (omega arith) (h .1 .1 .1) (h .1 .1 .0 .agree) (e .1),
+          performed-as N
+              (λ S. forwardRow N (a .numerics .epsilon) (a .numerics .tiny) (a .last) (a .columns) (loop .row) (forwardRows N (a .numerics .epsilon) (a .numerics .tiny) (a .first) (a .last) (a .columns) (loop .row - a .first) S))
+              (forward-rows-more N (a .numerics .epsilon) (a .numerics .tiny) (a .first) (a .last) (a .columns) (loop .row) _ (h .0))
+              (performed-then N (h .1 .1 .0) (e .0) (omega arith)
+              (λ S R. forward-row-same N (a .numerics .epsilon) (a .numerics .tiny) (a .n) (a .columns) 0 (omega arith) (a .last) (loop .row) 0 (omega arith) (omega arith) (omega arith))),
+          forward-count-more N (a .numerics .epsilon) (a .numerics .tiny) (a .first) (a .last) (a .columns) (a .n) (loop .row) _ (omega arith) (h .0) (omega arith) (h .1 .1 .1) (h .1 .1 .0 .agree) (e .1),
         ),
       ),
     )
@@ -116,10 +119,10 @@ returns c =
     let p = start .pre in
     let d = let t : tie.After-u-index Inv-loop μ-loop = search in t .u-index in
     let e : loop .row ≡ a .last = omega arith in (
-      performed-then (ieee binary64) (rw e at (loop .inv .1 .1 .0))
-          (dense-copied (ieee binary64) (a .stride) (a .n) (a .columns) (a .last) (d .result) _ _ _ (omega arith) (omega arith) (omega arith) (d .ensures .0) (copy .ensures))
+      performed-then N (rw e at (loop .inv .1 .1 .0))
+          (dense-copied N (a .stride) (a .n) (a .columns) (a .last) (d .result) _ _ _ (omega arith) (omega arith) (omega arith) (d .ensures .0) (copy .ensures))
           (omega arith)
-          (λ S R. copy-dense-same (ieee binary64) (a .numerics .epsilon) (a .numerics .tiny) (a .n) (a .columns) 0 (omega arith) (a .last) 0 (omega arith)),
+          (λ S R. copy-dense-same N (a .numerics .epsilon) (a .numerics .tiny) (a .n) (a .columns) 0 (omega arith) (a .last) 0 (omega arith)),
       rw e at (loop .inv .1 .1 .1),
     )
 

@@ -6,7 +6,7 @@ use native.Mathlib.Omega.{arith}
 use lib.Ieee.{binary64}
 use lib.ListN.{length, length-set}
 use denote.Ref.{now}
-use Rattle.numbers.specs.NumberForm.{ieee}
+use Rattle.numbers.specs.NumberForm.{NumberForm, ieee}
 use Rattle.machine.specs.Forward.{forwardTransform}
 use Rattle.storage.proofs.Places.{row-before, row-fits}
 use Rattle.ranges.proofs.RowParts.{part-fits, ranges-apart}
@@ -14,6 +14,9 @@ use Rattle.buffers.proofs.Buffers.{performed-none, performed-as}
 use Rattle.forward_row.proofs.RowEliminated.{forward-transformed, forward-acts, forward-passes, forward-acts-counted, forward-passes-counted}
 use Rattle.forward_row.proofs.forward_row.Statement.{statement}
 use Rattle.forward_row.proofs.forward_row.Tie as tie
+
+abbrev N : NumberForm
+N = ieee binary64
 
 -- The places up to the guard's test.
 record Tested : Type 0 where
@@ -143,12 +146,12 @@ returns c =
     let p = tested (acted r .pivot) .start .pre in
     let d = tested (acted r .pivot) .index .u-index in
     let s = acted r .pair .elementary in (
-      performed-as (ieee binary64) (forwardTransform (ieee binary64) (a .last) (a .columns) (a .row) _)
-          (forward-acts (ieee binary64) (a .numerics .epsilon) (a .numerics .tiny) (a .stride) (a .row) (a .last) (a .columns) (d .result) (now (a .l)) (now (a .u)) (now (a .y)) (d .ensures .0) (acted r .pivot .abs2 .ensures) (tested (acted r .pivot) .value .abs .ensures) (acted r .guard .if1 .taken) (s .ensures .step))
-          (forward-transformed (ieee binary64) (a .stride) (a .n) (a .columns) (a .row) (a .last) (d .result) (now (a .l)) (now (a .u)) (now (a .y)) _ _ _ _
+      performed-as N (forwardTransform N (a .last) (a .columns) (a .row) _)
+          (forward-acts N (a .numerics .epsilon) (a .numerics .tiny) (a .stride) (a .row) (a .last) (a .columns) (d .result) (now (a .l)) (now (a .u)) (now (a .y)) (d .ensures .0) (acted r .pivot .abs2 .ensures) (tested (acted r .pivot) .value .abs .ensures) (acted r .guard .if1 .taken) (s .ensures .step))
+          (forward-transformed N (a .stride) (a .n) (a .columns) (a .row) (a .last) (d .result) (now (a .l)) (now (a .u)) (now (a .y)) _ _ _ _
           (omega arith) (omega arith) (omega arith) (omega arith) (omega arith) (d .ensures .0) (omega arith) (omega arith) (s .ensures .cleared)
           (transform-slices .ensures .0) (transform-slices .ensures .1) (r .transform-rows .ensures)),
-      forward-acts-counted (ieee binary64) (a .numerics .epsilon) (a .numerics .tiny) (a .stride) (a .row) (a .last) (a .columns) (d .result) (now (a .l)) (now (a .u)) (now (a .y)) (d .ensures .0) (acted r .pivot .abs2 .ensures) (tested (acted r .pivot) .value .abs .ensures) (acted r .guard .if1 .taken),
+      forward-acts-counted N (a .numerics .epsilon) (a .numerics .tiny) (a .stride) (a .row) (a .last) (a .columns) (d .result) (now (a .l)) (now (a .u)) (now (a .y)) (d .ensures .0) (acted r .pivot .abs2 .ensures) (tested (acted r .pivot) .value .abs .ensures) (acted r .guard .if1 .taken),
     )
 
 returns-2 : tie.Need-returns-2
@@ -157,10 +160,10 @@ returns-2 c =
     let m : tie.After-abs2 = search in
     let a = tested m .start .args in
     let d = tested m .index .u-index in (
-      performed-as (ieee binary64) (λ S. S)
-          (forward-passes (ieee binary64) (a .numerics .epsilon) (a .numerics .tiny) (a .stride) (a .row) (a .last) (a .columns) (d .result) (now (a .l)) (now (a .u)) (now (a .y)) (d .ensures .0) (m .abs2 .ensures) (tested m .value .abs .ensures) (c .if1 .left))
-          (performed-none (ieee binary64)),
-      forward-passes-counted (ieee binary64) (a .numerics .epsilon) (a .numerics .tiny) (a .stride) (a .row) (a .last) (a .columns) (d .result) (now (a .l)) (now (a .u)) (now (a .y)) (d .ensures .0) (m .abs2 .ensures) (tested m .value .abs .ensures) (c .if1 .left),
+      performed-as N (λ S. S)
+          (forward-passes N (a .numerics .epsilon) (a .numerics .tiny) (a .stride) (a .row) (a .last) (a .columns) (d .result) (now (a .l)) (now (a .u)) (now (a .y)) (d .ensures .0) (m .abs2 .ensures) (tested m .value .abs .ensures) (c .if1 .left))
+          (performed-none N),
+      forward-passes-counted N (a .numerics .epsilon) (a .numerics .tiny) (a .stride) (a .row) (a .last) (a .columns) (d .result) (now (a .l)) (now (a .u)) (now (a .y)) (d .ensures .0) (m .abs2 .ensures) (tested m .value .abs .ensures) (c .if1 .left),
     )
 
 pub forward-row-spec : {M : Type 1} → statement M

@@ -4,7 +4,7 @@ use mathlib.Core.Path.{_≡_, refl}
 use Prim.Native.Nat.{_-_, _≤_}
 use native.Mathlib.Omega.{arith}
 use lib.Ieee.{binary64}
-use Rattle.numbers.specs.NumberForm.{ieee}
+use Rattle.numbers.specs.NumberForm.{NumberForm, ieee}
 use Rattle.machine.specs.Products.{entry}
 use Rattle.storage.specs.Places.{lIndex}
 use Rattle.ranges.specs.Written.{Written}
@@ -13,14 +13,17 @@ use Rattle.l_columns.proofs.ColumnPlaces.{lIndex-column-apart}
 use Rattle.l_columns.proofs.clear_l_column.Statement.{statement}
 use Rattle.l_columns.proofs.clear_l_column.Tie as tie
 
+abbrev N : NumberForm
+N = ieee binary64
+
 abbrev Inv-loop : tie.InvT-loop
-Inv-loop l₀ column rows stride i₀ l i = (i ≤ rows) × Written (ieee binary64) (λ j. lIndex stride j column) i (λ j. ieee binary64 .zero) l₀ l
+Inv-loop l₀ column rows stride i₀ l i = (i ≤ rows) × Written N (λ j. lIndex stride j column) i (λ j. ieee binary64 .zero) l₀ l
 
 abbrev μ-loop : tie.MeasureT-loop
 μ-loop l₀ column rows stride i₀ l i = rows - i
 
 loop-holds : tie.Need-loop-holds Inv-loop μ-loop
-loop-holds c = (search needs, written-none (ieee binary64))
+loop-holds c = (search needs, written-none N)
 
 l-index-requires : tie.Need-l-index-requires Inv-loop μ-loop
 l-index-requires c κs = search needs
@@ -38,7 +41,7 @@ loop-less : tie.Need-loop-less Inv-loop μ-loop
 loop-less c = omega arith
 
 loop-again : tie.Need-loop-again Inv-loop μ-loop
-loop-again c = (omega arith, stored (ieee binary64) (λ j. lIndex-column-apart _ _ _ j (omega arith)) (c .before .before .loop .inv .1) (c .l-index .ensures .0) (omega arith) refl)
+loop-again c = (omega arith, stored N (λ j. lIndex-column-apart _ _ _ j (omega arith)) (c .before .before .loop .inv .1) (c .l-index .ensures .0) (omega arith) refl)
 
 same-length : tie.Need-same-length Inv-loop μ-loop
 same-length c = c .before .loop .inv .1 .kept .long

@@ -4,7 +4,7 @@ use mathlib.Core.Path.{_≡_}
 use Prim.Native.Nat.{_-_, _≤_}
 use native.Mathlib.Omega.{arith}
 use lib.Ieee.{binary64}
-use Rattle.numbers.specs.NumberForm.{ieee}
+use Rattle.numbers.specs.NumberForm.{NumberForm, ieee}
 use Rattle.machine.specs.Products.{entry}
 use Rattle.storage.specs.Places.{lIndex}
 use Rattle.storage.specs.Views.{viewL}
@@ -14,14 +14,17 @@ use Rattle.l_columns.proofs.ColumnPlaces.{row-unwritten, lIndex-column-
 use Rattle.l_columns.proofs.copy_l_column.Statement.{statement}
 use Rattle.l_columns.proofs.copy_l_column.Tie as tie
 
+abbrev N : NumberForm
+N = ieee binary64
+
 abbrev Inv-loop : tie.InvT-loop
-Inv-loop l₀ source target rows stride i₀ l i = (i ≤ rows) × Written (ieee binary64) (λ j. lIndex stride j target) i (λ j. viewL (ieee binary64) stride l₀ j source) l₀ l
+Inv-loop l₀ source target rows stride i₀ l i = (i ≤ rows) × Written N (λ j. lIndex stride j target) i (λ j. viewL N stride l₀ j source) l₀ l
 
 abbrev μ-loop : tie.MeasureT-loop
 μ-loop l₀ source target rows stride i₀ l i = rows - i
 
 loop-holds : tie.Need-loop-holds Inv-loop μ-loop
-loop-holds c = (search needs, written-none (ieee binary64))
+loop-holds c = (search needs, written-none N)
 
 l-index-requires : tie.Need-l-index-requires Inv-loop μ-loop
 l-index-requires c κs = search needs
@@ -50,7 +53,7 @@ loop-less c = omega arith
 loop-again : tie.Need-loop-again Inv-loop μ-loop
 loop-again c =
     let loop = c .before .before .before .before .loop in
-    (omega arith, stored (ieee binary64) (λ j. lIndex-column-apart _ _ _ j (omega arith)) (loop .inv .1) (c .l-index2 .ensures .0) (omega arith) (rw (c .before .before .l-index .ensures .0) (row-unwritten (ieee binary64) _ _ _ (omega arith) (omega arith) (loop .inv .1))))
+    (omega arith, stored N (λ j. lIndex-column-apart _ _ _ j (omega arith)) (loop .inv .1) (c .l-index2 .ensures .0) (omega arith) (rw (c .before .before .l-index .ensures .0) (row-unwritten N _ _ _ (omega arith) (omega arith) (loop .inv .1))))
 
 same-length : tie.Need-same-length Inv-loop μ-loop
 same-length c = c .before .loop .inv .1 .kept .long

@@ -4,7 +4,7 @@ use mathlib.Core.Path.{_≡_}
 use Prim.Native.Nat.{_-_, _≤_}
 use native.Mathlib.Omega.{arith}
 use lib.Ieee.{binary64}
-use Rattle.numbers.specs.NumberForm.{ieee}
+use Rattle.numbers.specs.NumberForm.{NumberForm, ieee}
 use Rattle.machine.specs.Products.{entry}
 use Rattle.storage.specs.Views.{viewL}
 use Rattle.ranges.specs.Written.{Written}
@@ -12,14 +12,17 @@ use Rattle.ranges.proofs.Writing.{written-none, written-more, apart}
 use Rattle.l_columns.proofs.read_l_column.Statement.{statement}
 use Rattle.l_columns.proofs.read_l_column.Tie as tie
 
+abbrev N : NumberForm
+N = ieee binary64
+
 abbrev Inv-loop : tie.InvT-loop
-Inv-loop l column rows stride values₀ i₀ values i = (i ≤ rows) × Written (ieee binary64) (λ j. j) i (λ j. viewL (ieee binary64) stride l j column) values₀ values
+Inv-loop l column rows stride values₀ i₀ values i = (i ≤ rows) × Written N (λ j. j) i (λ j. viewL N stride l j column) values₀ values
 
 abbrev μ-loop : tie.MeasureT-loop
 μ-loop l column rows stride values₀ i₀ values i = rows - i
 
 loop-holds : tie.Need-loop-holds Inv-loop μ-loop
-loop-holds c = (search needs, written-none (ieee binary64))
+loop-holds c = (search needs, written-none N)
 
 l-index-requires : tie.Need-l-index-requires Inv-loop μ-loop
 l-index-requires c κs = search needs
@@ -43,7 +46,7 @@ loop-less : tie.Need-loop-less Inv-loop μ-loop
 loop-less c = omega arith
 
 loop-again : tie.Need-loop-again Inv-loop μ-loop
-loop-again c = (omega arith, written-more (ieee binary64) (apart (ieee binary64) _) (c .before .before .before .loop .inv .1) (omega arith) (rw (c .before .l-index .ensures .0)))
+loop-again c = (omega arith, written-more N (apart N _) (c .before .before .before .loop .inv .1) (omega arith) (rw (c .before .l-index .ensures .0)))
 
 same-length : tie.Need-same-length Inv-loop μ-loop
 same-length c = c .before .loop .inv .1 .kept .long

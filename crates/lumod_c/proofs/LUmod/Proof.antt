@@ -7,12 +7,15 @@ use mir.Facts.{toZ-ofZ}
 use denote.Ref.{now}
 use lib.Ieee.{binary64}
 use lib.ListN.{length}
-use Rattle.numbers.specs.NumberForm.{ieee}
+use Rattle.numbers.specs.NumberForm.{NumberForm, ieee}
 use Rattle.host_numbers.specs.Numbers.{sizeOf, strideOf}
 use Rattle.zero_based_tests.specs.Refusals.{passedOver, updateLacksRoom}
 use Rattle.lumod_c.proofs.Tests.{passed, update-room, outcome-11, outcome-12, outcome-0, untouched}
 use Rattle.lumod_c.proofs.LUmod.Statement.{statement}
 use Rattle.lumod_c.proofs.LUmod.Tie as tie
+
+abbrev N : NumberForm
+N = ieee binary64
 
 -- the places of the code up to the test for room, found by their types
 record Way : Type 0 where
@@ -46,7 +49,7 @@ returns c =
     let p = (λ t. passedOver (sym m t) (sym e t) (sym (toZ-ofZ (start .fits .krow)) t) (sym (toZ-ofZ (start .fits .kcol)) t)) ∙ sym (c .before .passed-over .ensures) ∙ c .if1 .taken in
     outcome-11 _
     (updateLacksRoom (sizeOf (start .args .n)) (strideOf (start .args .maxmod)) (length (now (start .args .l))) (length (now (start .args .u))) (length (now (start .args .y))) (length (now (start .args .z))) (length (now (start .args .w))))
-    p (untouched (ieee binary64))
+    p (untouched N)
 
 stride-requires : tie.Need-stride-requires
 stride-requires c κs = search needs
@@ -68,7 +71,7 @@ returns-2 c =
     let p = (λ t. passedOver (sym m t) (sym e t) (sym (toZ-ofZ (start .fits .krow)) t) (sym (toZ-ofZ (start .fits .kcol)) t)) ∙ sym (o .passed-over .ensures) ∙ else1 .if1 .left in
     outcome-12 _ _ p
     ((λ t. updateLacksRoom (sym e t) (sym f t) (length (now (start .args .l))) (length (now (start .args .u))) (length (now (start .args .y))) (length (now (start .args .z))) (length (now (start .args .w)))) ∙ sym (c .before .update-lacks-room .ensures) ∙ c .if2 .taken)
-    (untouched (ieee binary64))
+    (untouched N)
 
 size-requires-3 : tie.Need-size-requires-3
 size-requires-3 c κs = search needs

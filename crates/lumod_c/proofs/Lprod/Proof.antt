@@ -8,13 +8,16 @@ use mir.Facts.{toZ-ofZ}
 use denote.Ref.{now}
 use lib.Ieee.{binary64}
 use lib.ListN.{length}
-use Rattle.numbers.specs.NumberForm.{ieee}
+use Rattle.numbers.specs.NumberForm.{NumberForm, ieee}
 use Rattle.host_numbers.specs.Numbers.{sizeOf, strideOf}
 use Rattle.zero_based_tests.specs.Refusals.{productLacksRoom}
 use Rattle.lumod_c.proofs.Tests.{product-room, outcome-11, outcome-12, outcome-0}
 use Rattle.lumod_c.proofs.Modes.{plain-product, transposed-product}
 use Rattle.lumod_c.proofs.Lprod.Statement.{statement}
 use Rattle.lumod_c.proofs.Lprod.Tie as tie
+
+abbrev N : NumberForm
+N = ieee binary64
 
 size-requires : tie.Need-size-requires
 size-requires c κs = search needs
@@ -78,7 +81,7 @@ returns-3 c =
     let g : size2 .size2 .result ≡ sizeOf (start .args .mode) = size2 .size2 .ensures .0 ∙ ap sizeOf (toZ-ofZ (start .fits .mode)) in
     outcome-0 _ _ (ne-eqb _ 0 (λ h. else1 .if1 .left (e ∙ h)))
     ((λ t. productLacksRoom (sym e t) (sym f t) (length (now (start .args .l))) (length (now (start .args .y))) (length (now (start .args .z)))) ∙ sym (r .product-lacks-room .ensures) ∙ else2 .if2 .left)
-    (rw (← e, ← f, ← g, plain-product (ieee binary64) _ _ _ _ _ (then3 .if3 .taken)) (p .l-product .ensures))
+    (rw (← e, ← f, ← g, plain-product N _ _ _ _ _ (then3 .if3 .taken)) (p .l-product .ensures))
 
 same-length-2 : tie.Need-same-length-2
 same-length-2 c = search needs
@@ -99,7 +102,7 @@ returns-4 c =
     let g : size2 .size2 .result ≡ sizeOf (start .args .mode) = size2 .size2 .ensures .0 ∙ ap sizeOf (toZ-ofZ (start .fits .mode)) in
     outcome-0 _ _ (ne-eqb _ 0 (λ h. else1 .if1 .left (e ∙ h)))
     ((λ t. productLacksRoom (sym e t) (sym f t) (length (now (start .args .l))) (length (now (start .args .y))) (length (now (start .args .z)))) ∙ sym (r .product-lacks-room .ensures) ∙ else2 .if2 .left)
-    (rw (← e, ← f, ← g, transposed-product (ieee binary64) _ _ _ _ _ (else3 .if3 .left)) (p .l-product-transposed .ensures))
+    (rw (← e, ← f, ← g, transposed-product N _ _ _ _ _ (else3 .if3 .left)) (p .l-product-transposed .ensures))
 
 pub Lprod-spec : {M : Type 1} → statement M
 Lprod-spec =

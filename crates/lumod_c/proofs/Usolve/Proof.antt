@@ -8,13 +8,16 @@ use mir.Facts.{toZ-ofZ}
 use denote.Ref.{now}
 use lib.Ieee.{binary64}
 use lib.ListN.{length}
-use Rattle.numbers.specs.NumberForm.{ieee}
+use Rattle.numbers.specs.NumberForm.{NumberForm, ieee}
 use Rattle.host_numbers.specs.Numbers.{sizeOf, strideOf}
 use Rattle.zero_based_tests.specs.Refusals.{solveLacksRoom}
 use Rattle.lumod_c.proofs.Tests.{solve-room, outcome-11, outcome-12, outcome-0}
 use Rattle.lumod_c.proofs.Modes.{plain-solve, transpose-solve}
 use Rattle.lumod_c.proofs.Usolve.Statement.{statement}
 use Rattle.lumod_c.proofs.Usolve.Tie as tie
+
+abbrev N : NumberForm
+N = ieee binary64
 
 size-requires : tie.Need-size-requires
 size-requires c κs = search needs
@@ -77,7 +80,7 @@ returns-3 c =
     let g : size2 .size2 .result ≡ sizeOf (start .args .mode) = size2 .size2 .ensures .0 ∙ ap sizeOf (toZ-ofZ (start .fits .mode)) in
     outcome-0 _ _ (ne-eqb _ 0 (λ h. else1 .if1 .left (e ∙ h)))
     ((λ t. solveLacksRoom (sym e t) (sym f t) (length (now (start .args .u))) (length (now (start .args .y)))) ∙ sym (s .solve-lacks-room .ensures) ∙ else2 .if2 .left)
-    (rw (← e, ← f, ← g, plain-solve (ieee binary64) _ _ _ _ _ (then3 .if3 .taken)) (b .back-substitute .ensures))
+    (rw (← e, ← f, ← g, plain-solve N _ _ _ _ _ (then3 .if3 .taken)) (b .back-substitute .ensures))
 
 same-length-2 : tie.Need-same-length-2
 same-length-2 c = search needs
@@ -98,7 +101,7 @@ returns-4 c =
     let g : size2 .size2 .result ≡ sizeOf (start .args .mode) = size2 .size2 .ensures .0 ∙ ap sizeOf (toZ-ofZ (start .fits .mode)) in
     outcome-0 _ _ (ne-eqb _ 0 (λ h. else1 .if1 .left (e ∙ h)))
     ((λ t. solveLacksRoom (sym e t) (sym f t) (length (now (start .args .u))) (length (now (start .args .y)))) ∙ sym (l .solve-lacks-room .ensures) ∙ else2 .if2 .left)
-    (rw (← e, ← f, ← g, transpose-solve (ieee binary64) _ _ _ _ _ (else3 .if3 .left)) (s .forward-substitute .ensures))
+    (rw (← e, ← f, ← g, transpose-solve N _ _ _ _ _ (else3 .if3 .left)) (s .forward-substitute .ensures))
 
 pub Usolve-spec : {M : Type 1} → statement M
 Usolve-spec =

@@ -3,20 +3,23 @@ use mathlib.Core.Path.{_≡_}
 use Prim.Native.Nat.{_-_, _≤_}
 use native.Mathlib.Omega.{arith}
 use lib.Ieee.{binary64}
-use Rattle.numbers.specs.NumberForm.{ieee}
+use Rattle.numbers.specs.NumberForm.{NumberForm, ieee}
 use Rattle.ranges.proofs.Writing.{sum-none, sum-more}
 use Rattle.products.specs.RowSums.{rowSum}
 use Rattle.products.proofs.four_dots.Statement.{statement}
 use Rattle.products.proofs.four_dots.Tie as tie
 
+abbrev N : NumberForm
+N = ieee binary64
+
 abbrev Inv-loop : tie.InvT-loop
-Inv-loop l a b c d input start count first₀ second₀ third₀ fourth₀ k₀ first second third fourth k = (k ≤ count) × ((first ≡ rowSum (ieee binary64) a start k l input) × ((second ≡ rowSum (ieee binary64) b start k l input) × ((third ≡ rowSum (ieee binary64) c start k l input) × (fourth ≡ rowSum (ieee binary64) d start k l input))))
+Inv-loop l a b c d input start count first₀ second₀ third₀ fourth₀ k₀ first second third fourth k = (k ≤ count) × ((first ≡ rowSum N a start k l input) × ((second ≡ rowSum N b start k l input) × ((third ≡ rowSum N c start k l input) × (fourth ≡ rowSum N d start k l input))))
 
 abbrev μ-loop : tie.MeasureT-loop
 μ-loop l a b c d input start count first₀ second₀ third₀ fourth₀ k₀ first second third fourth k = count - k
 
 loop-holds : tie.Need-loop-holds Inv-loop μ-loop
-loop-holds c = (omega arith, (sum-none (ieee binary64) _, (sum-none (ieee binary64) _, (sum-none (ieee binary64) _, sum-none (ieee binary64) _))))
+loop-holds c = (omega arith, (sum-none N _, (sum-none N _, (sum-none N _, sum-none N _))))
 
 add-value : tie.Need-add-value Inv-loop μ-loop
 add-value c = omega arith
@@ -72,7 +75,7 @@ loop-less c = omega arith
 loop-again : tie.Need-loop-again Inv-loop μ-loop
 loop-again c =
     let h = let l : tie.At-loop Inv-loop μ-loop = search in l .loop .inv in
-    (omega arith, (sum-more (ieee binary64) _ (h .1 .0), (sum-more (ieee binary64) _ (h .1 .1 .0), (sum-more (ieee binary64) _ (h .1 .1 .1 .0), sum-more (ieee binary64) _ (h .1 .1 .1 .1)))))
+    (omega arith, (sum-more N _ (h .1 .0), (sum-more N _ (h .1 .1 .0), (sum-more N _ (h .1 .1 .1 .0), sum-more N _ (h .1 .1 .1 .1)))))
 
 returns : tie.Need-returns Inv-loop μ-loop
 returns c = let e : c .before .loop .k ≡ c .before .before .args .count = omega arith in rw e at (c .before .loop .inv .1)

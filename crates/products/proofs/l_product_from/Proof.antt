@@ -5,7 +5,7 @@ use Prim.Native.Nat.{_-_, _≤_}
 use native.Mathlib.Omega.{arith}
 use denote.Ref.{now}
 use lib.Ieee.{binary64}
-use Rattle.numbers.specs.NumberForm.{ieee}
+use Rattle.numbers.specs.NumberForm.{NumberForm, ieee}
 use Rattle.machine.specs.Products.{product}
 use Rattle.storage.specs.Views.{viewL}
 use Rattle.storage.proofs.Kept.{kept-all}
@@ -18,8 +18,11 @@ use Rattle.products.proofs.Sums.{row-product}
 use Rattle.products.proofs.l_product_from.Statement.{statement}
 use Rattle.products.proofs.l_product_from.Tie as tie
 
+abbrev N : NumberForm
+N = ieee binary64
+
 abbrev Inv-loop : tie.InvT-loop
-Inv-loop n stride l input start output₀ done i₀ output i = (i ≤ n) × Written (ieee binary64) (λ k. k) i (product (ieee binary64) n (viewL (ieee binary64) stride l) (entriesFrom (ieee binary64) start input)) output₀ output
+Inv-loop n stride l input start output₀ done i₀ output i = (i ≤ n) × Written N (λ k. k) i (product N n (viewL N stride l) (entriesFrom N start input)) output₀ output
 
 abbrev μ-loop : tie.MeasureT-loop
 μ-loop n stride l input start output₀ done i₀ output i = n - i
@@ -28,7 +31,7 @@ products-by-fours-requires : tie.Need-products-by-fours-requires Inv-loop μ-loo
 products-by-fours-requires c κs = search needs
 
 loop-holds : tie.Need-loop-holds Inv-loop μ-loop
-loop-holds c = let done = c .before .before .products-by-fours .ensures in (done .0, record { value = done .1 .value; kept = kept-all (ieee binary64) })
+loop-holds c = let done = c .before .before .products-by-fours .ensures in (done .0, record { value = done .1 .value; kept = kept-all N })
 
 mul-dot : tie.Need-mul-dot Inv-loop μ-loop
 mul-dot c =
@@ -57,7 +60,7 @@ loop-again : tie.Need-loop-again Inv-loop μ-loop
 loop-again c =
     let l = let place : tie.At-loop Inv-loop μ-loop = search in place .loop in
     let a = let start : tie.Start Inv-loop μ-loop = search in start .args in
-    (omega arith, written-more (ieee binary64) (apart (ieee binary64) _) (l .inv .1) (omega arith) (row-product (ieee binary64) (a .stride) (a .n) (l .i) _ (a .start) (now (a .l)) (now (a .input)) refl (c .dot .ensures)))
+    (omega arith, written-more N (apart N _) (l .inv .1) (omega arith) (row-product N (a .stride) (a .n) (l .i) _ (a .start) (now (a .l)) (now (a .input)) refl (c .dot .ensures)))
 
 same-length : tie.Need-same-length Inv-loop μ-loop
 same-length c = c .before .loop .inv .1 .kept .long ∙ c .before .before .before .before .products-by-fours .ensures .1 .kept .long
@@ -66,7 +69,7 @@ returns : tie.Need-returns Inv-loop μ-loop
 returns c =
     let p = let place : tie.After-products-by-fours Inv-loop μ-loop = search in place .products-by-fours .ensures in
     let n = let start : tie.Start Inv-loop μ-loop = search in start .args .n in
-    let e : c .before .loop .i ≡ n = omega arith in written-further (ieee binary64) (p .0) (p .1) (rw e at (c .before .loop .inv .1))
+    let e : c .before .loop .i ≡ n = omega arith in written-further N (p .0) (p .1) (rw e at (c .before .loop .inv .1))
 
 pub l-product-from-spec : {M : Type 1} → statement M
 l-product-from-spec =

@@ -2,13 +2,16 @@
 use borrow.Author.Needs.{needs}
 use denote.Ref.{now}
 use lib.Ieee.{binary64}
-use Rattle.numbers.specs.NumberForm.{ieee}
+use Rattle.numbers.specs.NumberForm.{NumberForm, ieee}
 use Rattle.machine.specs.Products.{productTransposed}
 use Rattle.machine.proofs.Products.{product-transposed-same}
 use Rattle.storage.specs.Views.{viewL}
 use Rattle.products.proofs.Sums.{product-from-0}
 use Rattle.products.proofs.l_product_transposed.Statement.{statement}
 use Rattle.products.proofs.l_product_transposed.Tie as tie
+
+abbrev N : NumberForm
+N = ieee binary64
 
 l-product-transposed-from-requires : tie.Need-l-product-transposed-from-requires
 l-product-transposed-from-requires c κs = search needs
@@ -21,7 +24,7 @@ returns c =
     let l : tie.After-l-product-transposed-from = search in
     let start : tie.Start = search in
     let a = start .args in
-    product-from-0 (ieee binary64) (a .n) (productTransposed (ieee binary64) (a .n)) (product-transposed-same (ieee binary64) (a .n)) (viewL (ieee binary64) (a .stride) (now (a .l))) (now (a .input)) (l .l-product-transposed-from .ensures)
+    product-from-0 N (a .n) (productTransposed N (a .n)) (product-transposed-same N (a .n)) (viewL N (a .stride) (now (a .l))) (now (a .input)) (l .l-product-transposed-from .ensures)
 
 pub l-product-transposed-spec : {M : Type 1} → statement M
 l-product-transposed-spec =

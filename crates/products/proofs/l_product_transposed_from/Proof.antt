@@ -4,7 +4,7 @@ use Prim.Native.Nat.{_-_, _≤_}
 use native.Mathlib.Omega.{arith}
 use denote.Ref.{now}
 use lib.Ieee.{binary64}
-use Rattle.numbers.specs.NumberForm.{ieee}
+use Rattle.numbers.specs.NumberForm.{NumberForm, ieee}
 use Rattle.storage.proofs.Kept.{kept-all}
 use Rattle.storage.proofs.Places.{row-before, row-fits}
 use Rattle.ranges.specs.Written.{Written}
@@ -15,8 +15,11 @@ use Rattle.products.proofs.Sums.{rowSums, row-sums-more, row-sums-all}
 use Rattle.products.proofs.l_product_transposed_from.Statement.{statement}
 use Rattle.products.proofs.l_product_transposed_from.Tie as tie
 
+abbrev N : NumberForm
+N = ieee binary64
+
 abbrev Inv-loop : tie.InvT-loop
-Inv-loop n stride l input start output₀ j₀ output j = (j ≤ n) × Written (ieee binary64) (λ k. k) n (rowSums (ieee binary64) stride j l (entriesFrom (ieee binary64) start input)) output₀ output
+Inv-loop n stride l input start output₀ j₀ output j = (j ≤ n) × Written N (λ k. k) n (rowSums N stride j l (entriesFrom N start input)) output₀ output
 
 abbrev μ-loop : tie.MeasureT-loop
 μ-loop n stride l input start output₀ j₀ output j = n - j
@@ -25,7 +28,7 @@ fill-requires : tie.Need-fill-requires Inv-loop μ-loop
 fill-requires c κs = omega arith
 
 loop-holds : tie.Need-loop-holds Inv-loop μ-loop
-loop-holds c = let f = written-from-0 (ieee binary64) (c .before .before .fill .ensures) in (omega arith, record { value = λ k h. f .value k h ∙ sum-none (ieee binary64) _; kept = kept-all (ieee binary64) })
+loop-holds c = let f = written-from-0 N (c .before .before .fill .ensures) in (omega arith, record { value = λ k h. f .value k h ∙ sum-none N _; kept = kept-all N })
 
 mul-add-multiple : tie.Need-mul-add-multiple Inv-loop μ-loop
 mul-add-multiple c =
@@ -61,7 +64,7 @@ loop-again c =
     let m = let place : tie.After-add-multiple Inv-loop μ-loop = search in place .add-multiple .ensures in
     let loop = let l : tie.At-loop Inv-loop μ-loop = search in l .loop in
     let a = let start : tie.Start Inv-loop μ-loop = search in start .args in
-    (omega arith, row-sums-more (ieee binary64) (a .stride) (a .n) (loop .j) (now (a .l)) (entriesFrom (ieee binary64) (a .start) (now (a .input))) refl (loop .inv .1) m)
+    (omega arith, row-sums-more N (a .stride) (a .n) (loop .j) (now (a .l)) (entriesFrom N (a .start) (now (a .input))) refl (loop .inv .1) m)
 
 same-length : tie.Need-same-length Inv-loop μ-loop
 same-length c = c .before .loop .inv .1 .kept .long ∙ c .before .before .before .before .fill .ensures .kept .long
@@ -71,8 +74,8 @@ returns c =
     let f = let place : tie.After-fill Inv-loop μ-loop = search in place .fill .ensures in
     let a = let start : tie.Start Inv-loop μ-loop = search in start .args in
     let e : c .before .loop .j ≡ a .n = omega arith in
-    row-sums-all (ieee binary64) (a .stride) (a .n) (now (a .l)) (entriesFrom (ieee binary64) (a .start) (now (a .input)))
-    (written-over (ieee binary64) (written-from-0 (ieee binary64) f) (rw e at (c .before .loop .inv .1)))
+    row-sums-all N (a .stride) (a .n) (now (a .l)) (entriesFrom N (a .start) (now (a .input)))
+    (written-over N (written-from-0 N f) (rw e at (c .before .loop .inv .1)))
 
 pub l-product-transposed-from-spec : {M : Type 1} → statement M
 l-product-transposed-from-spec =

@@ -2,7 +2,7 @@
 use Prim.Native.Nat.{_-_, _≤_}
 use native.Mathlib.Omega.{arith}
 use lib.Ieee.{binary64}
-use Rattle.numbers.specs.NumberForm.{ieee}
+use Rattle.numbers.specs.NumberForm.{NumberForm, ieee}
 use Rattle.machine.specs.Products.{product}
 use Rattle.storage.specs.Views.{viewL}
 use Rattle.ranges.specs.Written.{Written}
@@ -12,14 +12,17 @@ use Rattle.products.proofs.Sums.{written-four}
 use Rattle.products.proofs.products_by_fours.Statement.{statement}
 use Rattle.products.proofs.products_by_fours.Tie as tie
 
+abbrev N : NumberForm
+N = ieee binary64
+
 abbrev Inv-loop : tie.InvT-loop
-Inv-loop n stride l input start output₀ i₀ output i = (i ≤ n) × Written (ieee binary64) (λ k. k) i (product (ieee binary64) n (viewL (ieee binary64) stride l) (entriesFrom (ieee binary64) start input)) output₀ output
+Inv-loop n stride l input start output₀ i₀ output i = (i ≤ n) × Written N (λ k. k) i (product N n (viewL N stride l) (entriesFrom N start input)) output₀ output
 
 abbrev μ-loop : tie.MeasureT-loop
 μ-loop n stride l input start output₀ i₀ output i = n - i
 
 loop-holds : tie.Need-loop-holds Inv-loop μ-loop
-loop-holds c = (omega arith, written-none (ieee binary64))
+loop-holds c = (omega arith, written-none N)
 
 add-loop : tie.Need-add-loop Inv-loop μ-loop
 add-loop c = omega arith
@@ -34,7 +37,7 @@ loop-less : tie.Need-loop-less Inv-loop μ-loop
 loop-less c = omega arith
 
 loop-again : tie.Need-loop-again Inv-loop μ-loop
-loop-again c = (omega arith, written-four (ieee binary64) (c .before .before .before .before .before .loop .i) (c .before .before .before .before .before .loop .inv .1) (c .before .before .four-products .ensures))
+loop-again c = (omega arith, written-four N (c .before .before .before .before .before .loop .i) (c .before .before .before .before .before .loop .inv .1) (c .before .before .four-products .ensures))
 
 same-length : tie.Need-same-length Inv-loop μ-loop
 same-length c = c .before .loop .inv .1 .kept .long

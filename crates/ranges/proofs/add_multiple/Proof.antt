@@ -4,21 +4,24 @@ use mathlib.Core.Path.{_≡_}
 use Prim.Native.Nat.{_+_, _-_, _≤_}
 use native.Mathlib.Omega.{arith}
 use lib.Ieee.{binary64, add, mul}
-use Rattle.numbers.specs.NumberForm.{ieee}
+use Rattle.numbers.specs.NumberForm.{NumberForm, ieee}
 use Rattle.machine.specs.Products.{entry}
 use Rattle.ranges.specs.Written.{Written}
 use Rattle.ranges.proofs.Writing.{written-none, written-more, apart, unwritten}
 use Rattle.ranges.proofs.add_multiple.Statement.{statement}
 use Rattle.ranges.proofs.add_multiple.Tie as tie
 
+abbrev N : NumberForm
+N = ieee binary64
+
 abbrev Inv-loop : tie.InvT-loop
-Inv-loop target₀ source start count factor k₀ target k = (k ≤ count) × Written (ieee binary64) (λ k. k) k (λ j. add binary64 (entry (ieee binary64) target₀ j) (mul binary64 (entry (ieee binary64) source (start + j)) factor)) target₀ target
+Inv-loop target₀ source start count factor k₀ target k = (k ≤ count) × Written N (λ k. k) k (λ j. add binary64 (entry N target₀ j) (mul binary64 (entry N source (start + j)) factor)) target₀ target
 
 abbrev μ-loop : tie.MeasureT-loop
 μ-loop target₀ source start count factor k₀ target k = count - k
 
 loop-holds : tie.Need-loop-holds Inv-loop μ-loop
-loop-holds c = (search needs, written-none (ieee binary64))
+loop-holds c = (search needs, written-none N)
 
 mul-target : tie.Need-mul-target Inv-loop μ-loop
 mul-target c = omega arith
@@ -50,7 +53,7 @@ loop-less c = omega arith
 loop-again : tie.Need-loop-again Inv-loop μ-loop
 loop-again c =
     let loop = c .before .before .before .loop in
-    (omega arith, written-more (ieee binary64) (apart (ieee binary64) _) (loop .inv .1) (omega arith) (rw (unwritten (ieee binary64) (apart (ieee binary64) _) (loop .inv .1))))
+    (omega arith, written-more N (apart N _) (loop .inv .1) (omega arith) (rw (unwritten N (apart N _) (loop .inv .1))))
 
 same-length : tie.Need-same-length Inv-loop μ-loop
 same-length c = c .before .loop .inv .1 .kept .long

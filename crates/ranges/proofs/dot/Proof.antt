@@ -4,20 +4,23 @@ use mathlib.Core.Path.{_≡_}
 use Prim.Native.Nat.{_+_, _-_, _≤_}
 use native.Mathlib.Omega.{arith}
 use lib.Ieee.{binary64, mul}
-use Rattle.numbers.specs.NumberForm.{ieee}
+use Rattle.numbers.specs.NumberForm.{NumberForm, ieee}
 use Rattle.machine.specs.Products.{entry, sum}
 use Rattle.ranges.proofs.Writing.{sum-none, sum-more}
 use Rattle.ranges.proofs.dot.Statement.{statement}
 use Rattle.ranges.proofs.dot.Tie as tie
 
+abbrev N : NumberForm
+N = ieee binary64
+
 abbrev Inv-loop : tie.InvT-loop
-Inv-loop a x b y count value₀ k₀ value k = (k ≤ count) × (value ≡ sum (ieee binary64) k (λ j. mul binary64 (entry (ieee binary64) a (x + j)) (entry (ieee binary64) b (y + j))))
+Inv-loop a x b y count value₀ k₀ value k = (k ≤ count) × (value ≡ sum N k (λ j. mul binary64 (entry N a (x + j)) (entry N b (y + j))))
 
 abbrev μ-loop : tie.MeasureT-loop
 μ-loop a x b y count value₀ k₀ value k = count - k
 
 loop-holds : tie.Need-loop-holds Inv-loop μ-loop
-loop-holds c = (search needs, sum-none (ieee binary64) _)
+loop-holds c = (search needs, sum-none N _)
 
 add-value : tie.Need-add-value Inv-loop μ-loop
 add-value c = omega arith
@@ -44,7 +47,7 @@ loop-less : tie.Need-loop-less Inv-loop μ-loop
 loop-less c = omega arith
 
 loop-again : tie.Need-loop-again Inv-loop μ-loop
-loop-again c = (omega arith, sum-more (ieee binary64) _ (c .before .before .before .loop .inv .1))
+loop-again c = (omega arith, sum-more N _ (c .before .before .before .loop .inv .1))
 
 returns : tie.Need-returns Inv-loop μ-loop
 returns c = let e : c .before .loop .k ≡ c .before .before .args .count = omega arith in rw e at (c .before .loop .inv .1)

@@ -3,7 +3,7 @@ use mathlib.Core.Path.{sym, ap, _∙_}
 use denote.Ref.{now}
 use lib.Ieee.{binary64}
 use borrow.Author.Needs.{needs}
-use Rattle.numbers.specs.NumberForm.{ieee}
+use Rattle.numbers.specs.NumberForm.{NumberForm, ieee}
 use Rattle.machine.specs.Solves.{diagonals}
 use Rattle.storage.specs.Views.{viewU}
 use Rattle.managed.specs.StorageAnswers.{readyUnder}
@@ -12,6 +12,9 @@ use Rattle.refusals.specs.Refusal.{testOf}
 use Rattle.refusals.proofs.Chain.{passed-none}
 use Rattle.readiness.proofs.ready.Statement.{statement}
 use Rattle.readiness.proofs.ready.Tie as tie
+
+abbrev N : NumberForm
+N = ieee binary64
 
 test-storage-requires : tie.Need-test-storage-requires
 test-storage-requires c κs = search needs
@@ -24,7 +27,7 @@ returns c =
     let s : tie.After-test-storage = search in
     let start : tie.Start = search in
     let a = start .args in
-    λ t. readyUnder ((sym (ap testOf (c .before .test .given .1)) ∙ s .test-storage .ensures) t) (diagonals (ieee binary64) (viewU (ieee binary64) (a .capacity) (now (a .u))) (a .n))
+    λ t. readyUnder ((sym (ap testOf (c .before .test .given .1)) ∙ s .test-storage .ensures) t) (diagonals N (viewU N (a .capacity) (now (a .u))) (a .n))
 
 enum-told : tie.Need-enum-told
 enum-told c = search needs

@@ -2,12 +2,15 @@
 use borrow.Author.Needs.{needs}
 use native.Mathlib.Omega.{arith}
 use lib.Ieee.{binary64}
-use Rattle.numbers.specs.NumberForm.{ieee}
+use Rattle.numbers.specs.NumberForm.{NumberForm, ieee}
 use Rattle.machine.specs.Products.{product}
 use Rattle.machine.proofs.Products.{product-same}
 use Rattle.solves.proofs.InPlace.{product-in-place}
 use Rattle.solves.proofs.apply_l.Statement.{statement}
 use Rattle.solves.proofs.apply_l.Tie as tie
+
+abbrev N : NumberForm
+N = ieee binary64
 
 mul-work : tie.Need-mul-work
 mul-work c = search needs
@@ -29,7 +32,7 @@ returns c =
     let l = let place : tie.After-l-product-from = search in place .l-product-from .ensures in
     let copy = let place : tie.After-copy = search in place .copy .ensures in
     let a = let start : tie.Start = search in start .args in
-    product-in-place (ieee binary64) (a .n) (product (ieee binary64) (a .n)) (product-same (ieee binary64) (a .n)) (a .capacity) (omega arith) copy l
+    product-in-place N (a .n) (product N (a .n)) (product-same N (a .n)) (a .capacity) (omega arith) copy l
 
 pub apply-l-spec : {M : Type 1} → statement M
 apply-l-spec =

@@ -2,12 +2,15 @@
 use borrow.Author.Needs.{needs}
 use native.Mathlib.Omega.{arith}
 use lib.Ieee.{binary64}
-use Rattle.numbers.specs.NumberForm.{ieee}
+use Rattle.numbers.specs.NumberForm.{NumberForm, ieee}
 use Rattle.machine.specs.Products.{productTransposed}
 use Rattle.machine.proofs.Products.{product-transposed-same}
 use Rattle.solves.proofs.InPlace.{product-in-place}
 use Rattle.solves.proofs.apply_l_transposed.Statement.{statement}
 use Rattle.solves.proofs.apply_l_transposed.Tie as tie
+
+abbrev N : NumberForm
+N = ieee binary64
 
 mul-work : tie.Need-mul-work
 mul-work c = search needs
@@ -29,7 +32,7 @@ returns c =
     let l = let place : tie.After-l-product-transposed-from = search in place .l-product-transposed-from .ensures in
     let copy = let place : tie.After-copy = search in place .copy .ensures in
     let a = let start : tie.Start = search in start .args in
-    product-in-place (ieee binary64) (a .n) (productTransposed (ieee binary64) (a .n)) (product-transposed-same (ieee binary64) (a .n)) (a .capacity) (omega arith) copy l
+    product-in-place N (a .n) (productTransposed N (a .n)) (product-transposed-same N (a .n)) (a .capacity) (omega arith) copy l
 
 pub apply-l-transposed-spec : {M : Type 1} → statement M
 apply-l-transposed-spec =

@@ -3,12 +3,15 @@ use borrow.Author.Needs.{needs}
 use native.Mathlib.Omega.{arith}
 use denote.Ref.{now}
 use lib.Ieee.{binary64}
-use Rattle.numbers.specs.NumberForm.{ieee}
+use Rattle.numbers.specs.NumberForm.{NumberForm, ieee}
 use Rattle.machine.proofs.Solves.{back-substitution-same}
 use Rattle.storage.specs.Views.{viewU}
 use Rattle.ranges.proofs.Vectors.{written-as, written-over}
 use Rattle.solves.proofs.solve.Statement.{statement}
 use Rattle.solves.proofs.solve.Tie as tie
+
+abbrev N : NumberForm
+N = ieee binary64
 
 apply-l-requires : tie.Need-apply-l-requires
 apply-l-requires c κs = search needs
@@ -28,8 +31,8 @@ returns c =
     let product = let l : tie.After-apply-l = search in l .apply-l .ensures .0 in
     let applied = let place : tie.After-apply-l = search in place .apply-l .ensures .1 in
     let a = let start : tie.Start = search in start .args in
-    let U = viewU (ieee binary64) (a .capacity) (now (a .u)) in
-    (written-over (ieee binary64) product (written-as (ieee binary64) _ (back-substitution-same (ieee binary64) (a .n) U U (λ i j _ _ _. U i j) _ _ (product .value) (a .n) (omega arith)) b), applied)
+    let U = viewU N (a .capacity) (now (a .u)) in
+    (written-over N product (written-as N _ (back-substitution-same N (a .n) U U (λ i j _ _ _. U i j) _ _ (product .value) (a .n) (omega arith)) b), applied)
 
 pub solve-spec : {M : Type 1} → statement M
 solve-spec =

@@ -2,12 +2,15 @@
 use borrow.Author.Needs.{needs}
 use denote.Ref.{now}
 use lib.Ieee.{binary64}
-use Rattle.numbers.specs.NumberForm.{ieee}
+use Rattle.numbers.specs.NumberForm.{NumberForm, ieee}
 use Rattle.machine.proofs.Products.{product-transposed-same}
 use Rattle.storage.specs.Views.{viewL}
 use Rattle.ranges.proofs.Vectors.{written-as, written-over}
 use Rattle.solves.proofs.solve_transpose.Statement.{statement}
 use Rattle.solves.proofs.solve_transpose.Tie as tie
+
+abbrev N : NumberForm
+N = ieee binary64
 
 forward-substitute-requires : tie.Need-forward-substitute-requires
 forward-substitute-requires c κs = search needs
@@ -27,9 +30,9 @@ returns c =
     let f : tie.After-forward-substitute = search in
     let start : tie.Start = search in
     let a = start .args in
-    let L = viewL (ieee binary64) (a .capacity) (now (a .l)) in
+    let L = viewL N (a .capacity) (now (a .l)) in
     let solved = f .forward-substitute .ensures in
-    (written-over (ieee binary64) solved (written-as (ieee binary64) _ (product-transposed-same (ieee binary64) (a .n) L L _ _ (λ i j _ _ _. L i j) (solved .value)) (l .apply-l-transposed .ensures .0)), l .apply-l-transposed .ensures .1)
+    (written-over N solved (written-as N _ (product-transposed-same N (a .n) L L _ _ (λ i j _ _ _. L i j) (solved .value)) (l .apply-l-transposed .ensures .0)), l .apply-l-transposed .ensures .1)
 
 pub solve-transpose-spec : {M : Type 1} → statement M
 solve-transpose-spec =

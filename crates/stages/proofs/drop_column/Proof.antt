@@ -3,10 +3,13 @@ use borrow.Author.Needs.{needs}
 use native.Mathlib.Omega.{arith}
 use lib.Ieee.{binary64}
 use denote.Ref.{now}
-use Rattle.numbers.specs.NumberForm.{ieee}
+use Rattle.numbers.specs.NumberForm.{NumberForm, ieee}
 use Rattle.stages.proofs.StageLaws.{column-dropped-outcome, last-column-dropped}
 use Rattle.stages.proofs.drop_column.Statement.{statement}
 use Rattle.stages.proofs.drop_column.Tie as tie
+
+abbrev N : NumberForm
+N = ieee binary64
 
 -- The places before the column is written.
 record Way : Type 0 where
@@ -50,13 +53,13 @@ returns c =
     let t : tie.After-write-u-column = search in
     let a = way t .start .args in
     let p = way t .start .pre in
-    column-dropped-outcome (ieee binary64) (a .numerics .epsilon) (a .numerics .tiny) (a .stride) (a .n) (a .column) (now (a .l)) (now (a .u)) (now (a .y))
+    column-dropped-outcome N (a .numerics .epsilon) (a .numerics .tiny) (a .stride) (a .n) (a .column) (now (a .l)) (now (a .u)) (now (a .y))
     (now (a .w)) _ _ (omega arith) (omega arith) (way t .read .read-u-column .ensures) (t .write-u-column .ensures) (restore .ensures)
 
 returns-2 : tie.Need-returns-2
 returns-2 c =
     let a = let s : tie.Start = search in s .args in
-    last-column-dropped (ieee binary64) (a .numerics .epsilon) (a .numerics .tiny) (a .stride) (a .n) (a .column) (now (a .l)) (now (a .u))
+    last-column-dropped N (a .numerics .epsilon) (a .numerics .tiny) (a .stride) (a .n) (a .column) (now (a .l)) (now (a .u))
     (now (a .y)) (now (a .w)) (omega arith)
 
 pub drop-column-spec : {M : Type 1} → statement M

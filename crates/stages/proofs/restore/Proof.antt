@@ -5,12 +5,15 @@ use native.Mathlib.Omega.{arith}
 use lib.Ieee.{binary64}
 use lib.ListN.{length-set}
 use denote.Ref.{now}
-use Rattle.numbers.specs.NumberForm.{ieee}
+use Rattle.numbers.specs.NumberForm.{NumberForm, ieee}
 use native.Mathlib.Numerals.{add-one}
 use Rattle.buffers.proofs.Buffers.{room-kept}
 use Rattle.stages.proofs.StageLaws.{forward-counted-le, backward-counted-le, restored-outcome}
 use Rattle.stages.proofs.restore.Statement.{statement}
 use Rattle.stages.proofs.restore.Tie as tie
+
+abbrev N : NumberForm
+N = ieee binary64
 
 -- The places before Backward.
 record Way : Type 0 where
@@ -70,7 +73,7 @@ forward-requires c κs =
     let p = way m .start .pre in
     let e = way m .trimmed .trim .ensures in
     let k = m .backward .ensures .0 .frame in (
-      room-kept (ieee binary64) (p .0) (k .l-kept .long) (k .u-kept .long),
+      room-kept N (p .0) (k .l-kept .long) (k .u-kept .long),
       (rw (length-set, k .y-kept .long) (omega arith), (omega arith, (omega arith, (omega arith, omega arith)))),
     )
 
@@ -84,8 +87,8 @@ add-result c =
     let a = way m .start .args in
     let p = way m .start .pre in
     let e = after-trim .ensures in
-    let b = backward-counted-le (ieee binary64) (a .numerics .epsilon) (a .numerics .tiny) _ _ _ _ (after-backward .ensures .1) in
-    let f = forward-counted-le (ieee binary64) (a .numerics .epsilon) (a .numerics .tiny) _ _ _ _ (forward .ensures .1) in
+    let b = backward-counted-le N (a .numerics .epsilon) (a .numerics .tiny) _ _ _ _ (after-backward .ensures .1) in
+    let f = forward-counted-le N (a .numerics .epsilon) (a .numerics .tiny) _ _ _ _ (forward .ensures .1) in
     omega arith
 
 same-length : tie.Need-same-length
@@ -115,7 +118,7 @@ returns c =
     let k = after-backward .ensures .0 .frame .y-kept .long in
     let is-s = rw add-one at (after-trim .ensures .0) in
     let performed = rw add-one at (after-backward .ensures .0) in
-    restored-outcome (ieee binary64) (a .numerics .epsilon) (a .numerics .tiny) (a .stride) (a .n) (a .column) (a .last) (a .columns)
+    restored-outcome N (a .numerics .epsilon) (a .numerics .tiny) (a .stride) (a .n) (a .column) (a .last) (a .columns)
     (after-trim .result) _ _ _ (now (a .w)) _ _ (omega arith) (omega (arith, p, k)) (omega arith) (omega arith) (omega arith)
     is-s performed (rw add-one at (after-backward .ensures .1)) (forward .ensures)
 

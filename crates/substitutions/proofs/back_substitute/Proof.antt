@@ -5,7 +5,7 @@ use native.Mathlib.Omega.{arith}
 use lib.Ieee.{binary64}
 use lib.ListN.{length}
 use denote.Ref.{now}
-use Rattle.numbers.specs.NumberForm.{ieee}
+use Rattle.numbers.specs.NumberForm.{NumberForm, ieee}
 use Rattle.machine.specs.Products.{entry}
 use Rattle.machine.specs.Solves.{backSubstitution}
 use Rattle.storage.specs.Views.{viewU}
@@ -15,14 +15,17 @@ use Rattle.substitutions.proofs.Rows.{back-none, back-more}
 use Rattle.substitutions.proofs.back_substitute.Statement.{statement}
 use Rattle.substitutions.proofs.back_substitute.Tie as tie
 
+abbrev N : NumberForm
+N = ieee binary64
+
 abbrev Inv-loop : tie.InvT-loop
-Inv-loop n stride u b₀ row₀ b row = (row ≤ n) × Written (ieee binary64) (λ k. k) n (backSubstitution (ieee binary64) n (viewU (ieee binary64) stride u) (entry (ieee binary64) b₀) (n - row)) b₀ b
+Inv-loop n stride u b₀ row₀ b row = (row ≤ n) × Written N (λ k. k) n (backSubstitution N n (viewU N stride u) (entry N b₀) (n - row)) b₀ b
 
 abbrev μ-loop : tie.MeasureT-loop
 μ-loop n stride u b₀ row₀ b row = row
 
 loop-holds : tie.Need-loop-holds Inv-loop μ-loop
-loop-holds c = (omega arith, back-none (ieee binary64) _ _ _)
+loop-holds c = (omega arith, back-none N _ _ _)
 
 sub-row : tie.Need-sub-row Inv-loop μ-loop
 sub-row c = omega arith
@@ -81,7 +84,7 @@ loop-again c =
     let k = loop .inv .1 .kept .long in
     let e : loop .row ≡ loop .row - 1 + 1 = omega arith in (
       omega arith,
-      back-more (ieee binary64) (a .stride) (a .n) (loop .row - 1) (u-index .result) (now (a .u)) (now (a .b)) (loop .b) (omega arith) (omega arith) (omega arith) (u-index .ensures .0) refl
+      back-more N (a .stride) (a .n) (loop .row - 1) (u-index .result) (now (a .u)) (now (a .b)) (loop .b) (omega arith) (omega arith) (omega arith) (u-index .ensures .0) refl
           (rw (← e) (loop .inv .1)) d,
     )
 

@@ -4,7 +4,7 @@ use Prim.Native.Nat.{_-_, _≤_}
 use native.Mathlib.Omega.{arith}
 use lib.Ieee.{binary64}
 use denote.Ref.{now}
-use Rattle.numbers.specs.NumberForm.{ieee}
+use Rattle.numbers.specs.NumberForm.{NumberForm, ieee}
 use Rattle.machine.specs.Products.{entry}
 use Rattle.machine.specs.Solves.{forwardSubstitution}
 use Rattle.storage.specs.Views.{viewU}
@@ -13,14 +13,17 @@ use Rattle.substitutions.proofs.Rows.{forward-none, forward-more}
 use Rattle.substitutions.proofs.forward_substitute.Statement.{statement}
 use Rattle.substitutions.proofs.forward_substitute.Tie as tie
 
+abbrev N : NumberForm
+N = ieee binary64
+
 abbrev Inv-loop : tie.InvT-loop
-Inv-loop n stride u b₀ row₀ b row = (row ≤ n) × Written (ieee binary64) (λ k. k) n (forwardSubstitution (ieee binary64) (viewU (ieee binary64) stride u) (entry (ieee binary64) b₀) row) b₀ b
+Inv-loop n stride u b₀ row₀ b row = (row ≤ n) × Written N (λ k. k) n (forwardSubstitution N (viewU N stride u) (entry N b₀) row) b₀ b
 
 abbrev μ-loop : tie.MeasureT-loop
 μ-loop n stride u b₀ row₀ b row = n - row
 
 loop-holds : tie.Need-loop-holds Inv-loop μ-loop
-loop-holds c = (omega arith, forward-none (ieee binary64) _ _ _)
+loop-holds c = (omega arith, forward-none N _ _ _)
 
 dot-u-column-requires : tie.Need-dot-u-column-requires Inv-loop μ-loop
 dot-u-column-requires c κs = let k = c .before .before .loop .inv .1 .kept .long in omega arith
@@ -60,7 +63,7 @@ loop-again c =
     let a = let start : tie.Start Inv-loop μ-loop = search in start .args in
     let k = loop .inv .1 .kept .long in (
       omega arith,
-      forward-more (ieee binary64) (a .stride) (a .n) (loop .row) (u .result) (now (a .u)) (now (a .b)) (loop .b) (omega arith) (omega arith) (omega arith)
+      forward-more N (a .stride) (a .n) (loop .row) (u .result) (now (a .u)) (now (a .b)) (loop .b) (omega arith) (omega arith) (omega arith)
           (u .ensures .0) refl
           (loop .inv .1) d,
     )

@@ -5,20 +5,23 @@ use Prim.Native.Nat.{_-_, _≤_, _<_}
 use native.Mathlib.Omega.{arith}
 use lib.Ieee.{binary64}
 use lib.ListN.{length-set}
-use Rattle.numbers.specs.NumberForm.{ieee}
+use Rattle.numbers.specs.NumberForm.{NumberForm, ieee}
 use Rattle.transforms.specs.RowsTransformed.{RowsTransformed}
 use Rattle.transforms.proofs.Pairs.{rows-none, rows-more}
 use Rattle.transforms.proofs.transform_block.Statement.{statement}
 use Rattle.transforms.proofs.transform_block.Tie as tie
 
+abbrev N : NumberForm
+N = ieee binary64
+
 abbrev Inv-loop : tie.InvT-loop
-Inv-loop matrix₀ x y count transform k₀ matrix k = (k ≤ count) × RowsTransformed (ieee binary64) (transform .swap) (transform .multiplier) x y k matrix₀ matrix
+Inv-loop matrix₀ x y count transform k₀ matrix k = (k ≤ count) × RowsTransformed N (transform .swap) (transform .multiplier) x y k matrix₀ matrix
 
 abbrev μ-loop : tie.MeasureT-loop
 μ-loop matrix₀ x y count transform k₀ matrix k = count - k
 
 loop-holds : tie.Need-loop-holds Inv-loop μ-loop
-loop-holds c = (search needs, rows-none (ieee binary64))
+loop-holds c = (search needs, rows-none N)
 
 add-first : tie.Need-add-first Inv-loop μ-loop
 add-first c = omega arith
@@ -69,7 +72,7 @@ loop-again : tie.Need-loop-again Inv-loop μ-loop
 loop-again c =
     let loop = let l : tie.At-loop Inv-loop μ-loop = search in l .loop in
     let start : tie.Start Inv-loop μ-loop = search in
-    let h : loop .k < start .args .count = omega arith in (omega arith, rows-more (ieee binary64) (start .pre .0) h (omega arith) (omega arith) (loop .inv .1) (c .apply-pair .ensures .0) (c .apply-pair .ensures .1))
+    let h : loop .k < start .args .count = omega arith in (omega arith, rows-more N (start .pre .0) h (omega arith) (omega arith) (loop .inv .1) (c .apply-pair .ensures .0) (c .apply-pair .ensures .1))
 
 same-length : tie.Need-same-length Inv-loop μ-loop
 same-length c = c .before .loop .inv .1 .kept .long

@@ -5,20 +5,23 @@ use mathlib.Core.Path.{_≡_}
 use Prim.Native.Nat.{_-_, _≤_}
 use native.Mathlib.Omega.{arith}
 use lib.Ieee.{binary64}
-use Rattle.numbers.specs.NumberForm.{ieee}
+use Rattle.numbers.specs.NumberForm.{NumberForm, ieee}
 use Rattle.transforms.specs.RowsTransformed.{RowsTransformed}
 use Rattle.transforms.proofs.Pairs.{rows-none, rows-further}
 use Rattle.transforms.proofs.transform_rows.Statement.{statement}
 use Rattle.transforms.proofs.transform_rows.Tie as tie
 
+abbrev N : NumberForm
+N = ieee binary64
+
 abbrev Inv-loop : tie.InvT-loop
-Inv-loop matrix₀ x y count transform done₀ matrix done = (done ≤ count) × RowsTransformed (ieee binary64) (transform .swap) (transform .multiplier) x y done matrix₀ matrix
+Inv-loop matrix₀ x y count transform done₀ matrix done = (done ≤ count) × RowsTransformed N (transform .swap) (transform .multiplier) x y done matrix₀ matrix
 
 abbrev μ-loop : tie.MeasureT-loop
 μ-loop matrix₀ x y count transform done₀ matrix done = count - done
 
 loop-holds : tie.Need-loop-holds Inv-loop μ-loop
-loop-holds c = (omega arith, rows-none (ieee binary64))
+loop-holds c = (omega arith, rows-none N)
 
 sub-block-length : tie.Need-sub-block-length Inv-loop μ-loop
 sub-block-length c = omega arith
@@ -53,7 +56,7 @@ loop-again c =
     let inv = let l : tie.At-loop Inv-loop μ-loop = search in l .loop .inv in
     let done = let place : tie.At-loop Inv-loop μ-loop = search in place .loop .done in
     let start : tie.Start Inv-loop μ-loop = search in
-    (omega arith, rows-further (ieee binary64) (start .args .x) (start .args .y) (start .args .count) done (start .pre .0) (omega arith) (inv .1) t)
+    (omega arith, rows-further N (start .args .x) (start .args .y) (start .args .count) done (start .pre .0) (omega arith) (inv .1) t)
 
 same-length : tie.Need-same-length Inv-loop μ-loop
 same-length c = c .before .loop .inv .1 .kept .long

@@ -4,7 +4,7 @@ use mathlib.Core.Path.{_≡_}
 use Prim.Native.Nat.{_+_, _-_, _≤_}
 use native.Mathlib.Omega.{arith}
 use lib.Ieee.{binary64}
-use Rattle.numbers.specs.NumberForm.{ieee}
+use Rattle.numbers.specs.NumberForm.{NumberForm, ieee}
 use Rattle.machine.specs.Products.{entry}
 use Rattle.numbers.specs.PairStep.{first, second}
 use Rattle.ranges.specs.Written.{from, Written}
@@ -13,14 +13,17 @@ use Rattle.transforms.proofs.Pairs.{firsts-more, seconds-more}
 use Rattle.transforms.proofs.transform_slices.Statement.{statement}
 use Rattle.transforms.proofs.transform_slices.Tie as tie
 
+abbrev N : NumberForm
+N = ieee binary64
+
 abbrev Inv-loop : tie.InvT-loop
-Inv-loop xs₀ x ys₀ y count transform k₀ xs ys k = (k ≤ count) × (Written (ieee binary64) (from x) k (λ j. first (ieee binary64) (transform .swap) (entry (ieee binary64) xs₀ (x + j)) (entry (ieee binary64) ys₀ (y + j))) xs₀ xs × Written (ieee binary64) (from y) k (λ j. second (ieee binary64) (transform .swap) (transform .multiplier) (entry (ieee binary64) xs₀ (x + j)) (entry (ieee binary64) ys₀ (y + j))) ys₀ ys)
+Inv-loop xs₀ x ys₀ y count transform k₀ xs ys k = (k ≤ count) × (Written N (from x) k (λ j. first N (transform .swap) (entry N xs₀ (x + j)) (entry N ys₀ (y + j))) xs₀ xs × Written N (from y) k (λ j. second N (transform .swap) (transform .multiplier) (entry N xs₀ (x + j)) (entry N ys₀ (y + j))) ys₀ ys)
 
 abbrev μ-loop : tie.MeasureT-loop
 μ-loop xs₀ x ys₀ y count transform k₀ xs ys k = count - k
 
 loop-holds : tie.Need-loop-holds Inv-loop μ-loop
-loop-holds c = (search needs, (written-none (ieee binary64), written-none (ieee binary64)))
+loop-holds c = (search needs, (written-none N, written-none N))
 
 add-first : tie.Need-add-first Inv-loop μ-loop
 add-first c = omega arith
@@ -72,7 +75,7 @@ loop-again c =
     let here = let l : tie.At-loop Inv-loop μ-loop = search in l .loop .inv .1 in
     let start : tie.Start Inv-loop μ-loop = search in
     let t = start .args .transform in let a = start .args in
-    (omega arith, (firsts-more (ieee binary64) _ _ (a .x) (a .y) _ _ _ (here .0) (here .1) (omega arith) (c .apply-pair .ensures .0), seconds-more (ieee binary64) _ _ (a .x) (a .y) _ _ _ (here .0) (here .1) (omega arith) (c .apply-pair .ensures .1)))
+    (omega arith, (firsts-more N _ _ (a .x) (a .y) _ _ _ (here .0) (here .1) (omega arith) (c .apply-pair .ensures .0), seconds-more N _ _ (a .x) (a .y) _ _ _ (here .0) (here .1) (omega arith) (c .apply-pair .ensures .1)))
 
 same-length : tie.Need-same-length Inv-loop μ-loop
 same-length c = c .before .loop .inv .1 .0 .kept .long

@@ -4,21 +4,24 @@ use mathlib.Core.Path.{_≡_}
 use Prim.Native.Nat.{_-_, _≤_}
 use native.Mathlib.Omega.{arith}
 use lib.Ieee.{binary64, mul}
-use Rattle.numbers.specs.NumberForm.{ieee}
+use Rattle.numbers.specs.NumberForm.{NumberForm, ieee}
 use Rattle.machine.specs.Products.{entry, sum}
 use Rattle.storage.specs.Views.{viewU}
 use Rattle.ranges.proofs.Writing.{sum-none, sum-more}
 use Rattle.u_columns.proofs.dot_u_column.Statement.{statement}
 use Rattle.u_columns.proofs.dot_u_column.Tie as tie
 
+abbrev N : NumberForm
+N = ieee binary64
+
 abbrev Inv-loop : tie.InvT-loop
-Inv-loop u column stride values value₀ i₀ value i = (i ≤ column) × (value ≡ sum (ieee binary64) i (λ j. mul binary64 (viewU (ieee binary64) stride u j column) (entry (ieee binary64) values j)))
+Inv-loop u column stride values value₀ i₀ value i = (i ≤ column) × (value ≡ sum N i (λ j. mul binary64 (viewU N stride u j column) (entry N values j)))
 
 abbrev μ-loop : tie.MeasureT-loop
 μ-loop u column stride values value₀ i₀ value i = column - i
 
 loop-holds : tie.Need-loop-holds Inv-loop μ-loop
-loop-holds c = (search needs, sum-none (ieee binary64) _)
+loop-holds c = (search needs, sum-none N _)
 
 u-index-requires : tie.Need-u-index-requires Inv-loop μ-loop
 u-index-requires c κs = search needs
@@ -42,7 +45,7 @@ loop-less : tie.Need-loop-less Inv-loop μ-loop
 loop-less c = omega arith
 
 loop-again : tie.Need-loop-again Inv-loop μ-loop
-loop-again c = (omega arith, rw (c .before .before .u-index .ensures .0) (sum-more (ieee binary64) _ (c .before .before .before .before .loop .inv .1)))
+loop-again c = (omega arith, rw (c .before .before .u-index .ensures .0) (sum-more N _ (c .before .before .before .before .loop .inv .1)))
 
 returns : tie.Need-returns Inv-loop μ-loop
 returns c = let e : c .before .loop .i ≡ c .before .before .before .before .args .column = omega arith in rw e at (c .before .loop .inv .1)

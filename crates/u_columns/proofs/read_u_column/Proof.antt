@@ -4,7 +4,7 @@ use mathlib.Core.Path.{_≡_}
 use Prim.Native.Nat.{_+_, _-_, _≤_}
 use native.Mathlib.Omega.{arith}
 use lib.Ieee.{binary64}
-use Rattle.numbers.specs.NumberForm.{ieee}
+use Rattle.numbers.specs.NumberForm.{NumberForm, ieee}
 use Rattle.machine.specs.Products.{entry}
 use Rattle.storage.specs.Views.{viewU}
 use Rattle.ranges.specs.Written.{Written}
@@ -12,8 +12,11 @@ use Rattle.ranges.proofs.Writing.{written-none, written-more, apart}
 use Rattle.u_columns.proofs.read_u_column.Statement.{statement}
 use Rattle.u_columns.proofs.read_u_column.Tie as tie
 
+abbrev N : NumberForm
+N = ieee binary64
+
 abbrev Inv-loop : tie.InvT-loop
-Inv-loop u column stride values₀ i₀ i-end values i = (i ≤ column + 1) × Written (ieee binary64) (λ j. j) i (λ j. viewU (ieee binary64) stride u j column) values₀ values
+Inv-loop u column stride values₀ i₀ i-end values i = (i ≤ column + 1) × Written N (λ j. j) i (λ j. viewU N stride u j column) values₀ values
 
 abbrev μ-loop : tie.MeasureT-loop
 μ-loop u column stride values₀ i₀ i-end values i = column + 1 - i
@@ -22,7 +25,7 @@ add-i-end : tie.Need-add-i-end Inv-loop μ-loop
 add-i-end c = omega arith
 
 loop-holds : tie.Need-loop-holds Inv-loop μ-loop
-loop-holds c = (search needs, written-none (ieee binary64))
+loop-holds c = (search needs, written-none N)
 
 u-index-requires : tie.Need-u-index-requires Inv-loop μ-loop
 u-index-requires c κs = search needs
@@ -46,7 +49,7 @@ loop-less : tie.Need-loop-less Inv-loop μ-loop
 loop-less c = omega arith
 
 loop-again : tie.Need-loop-again Inv-loop μ-loop
-loop-again c = (omega arith, written-more (ieee binary64) (apart (ieee binary64) _) (c .before .before .before .loop .inv .1) (omega arith) (rw (c .before .u-index .ensures .0)))
+loop-again c = (omega arith, written-more N (apart N _) (c .before .before .before .loop .inv .1) (omega arith) (rw (c .before .u-index .ensures .0)))
 
 same-length : tie.Need-same-length Inv-loop μ-loop
 same-length c = c .before .loop .inv .1 .kept .long

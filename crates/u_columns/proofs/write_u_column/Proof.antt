@@ -4,7 +4,7 @@ use mathlib.Core.Path.{_≡_, refl}
 use Prim.Native.Nat.{_-_, _≤_}
 use native.Mathlib.Omega.{arith}
 use lib.Ieee.{binary64}
-use Rattle.numbers.specs.NumberForm.{ieee}
+use Rattle.numbers.specs.NumberForm.{NumberForm, ieee}
 use Rattle.machine.specs.Products.{entry}
 use Rattle.storage.specs.Places.{uIndex}
 use Rattle.ranges.specs.Written.{Written}
@@ -13,14 +13,17 @@ use Rattle.u_columns.proofs.ColumnPlaces.{uIndex-column-apart}
 use Rattle.u_columns.proofs.write_u_column.Statement.{statement}
 use Rattle.u_columns.proofs.write_u_column.Tie as tie
 
+abbrev N : NumberForm
+N = ieee binary64
+
 abbrev Inv-loop : tie.InvT-loop
-Inv-loop u₀ column rows stride values i₀ u i = (i ≤ rows) × Written (ieee binary64) (λ j. uIndex stride j column) i (entry (ieee binary64) values) u₀ u
+Inv-loop u₀ column rows stride values i₀ u i = (i ≤ rows) × Written N (λ j. uIndex stride j column) i (entry N values) u₀ u
 
 abbrev μ-loop : tie.MeasureT-loop
 μ-loop u₀ column rows stride values i₀ u i = rows - i
 
 loop-holds : tie.Need-loop-holds Inv-loop μ-loop
-loop-holds c = (search needs, written-none (ieee binary64))
+loop-holds c = (search needs, written-none N)
 
 mul-u : tie.Need-mul-u Inv-loop μ-loop
 mul-u c = omega arith
@@ -44,7 +47,7 @@ loop-less : tie.Need-loop-less Inv-loop μ-loop
 loop-less c = omega arith
 
 loop-again : tie.Need-loop-again Inv-loop μ-loop
-loop-again c = (omega arith, stored (ieee binary64) (λ j. uIndex-column-apart _ _ _ j (omega arith) (omega arith)) (c .before .before .before .loop .inv .1) (c .u-index .ensures .0) (omega arith) refl)
+loop-again c = (omega arith, stored N (λ j. uIndex-column-apart _ _ _ j (omega arith) (omega arith)) (c .before .before .before .loop .inv .1) (c .u-index .ensures .0) (omega arith) refl)
 
 same-length : tie.Need-same-length Inv-loop μ-loop
 same-length c = c .before .loop .inv .1 .kept .long

@@ -3,10 +3,13 @@ use borrow.Author.Needs.{needs}
 use native.Mathlib.Omega.{arith}
 use lib.Ieee.{binary64}
 use denote.Ref.{now}
-use Rattle.numbers.specs.NumberForm.{ieee}
+use Rattle.numbers.specs.NumberForm.{NumberForm, ieee}
 use Rattle.update_column.proofs.ColumnReplaced.{column-outcome, last-column-outcome}
 use Rattle.update_column.proofs.replace_column.Statement.{statement}
 use Rattle.update_column.proofs.replace_column.Tie as tie
+
+abbrev N : NumberForm
+N = ieee binary64
 
 -- The places before the column is written.
 record Way : Type 0 where
@@ -54,7 +57,7 @@ returns c =
     let t : tie.After-write-u-column = search in
     let a = way t .start .args in
     let p = way t .start .pre in
-    column-outcome (ieee binary64) (a .numerics .epsilon) (a .numerics .tiny) (a .stride) (a .n) (a .column) (now (a .l)) (now (a .u)) (now (a .y))
+    column-outcome N (a .numerics .epsilon) (a .numerics .tiny) (a .stride) (a .n) (a .column) (now (a .l)) (now (a .u)) (now (a .y))
     (now (a .z)) (now (a .w)) _ _ (omega arith) (omega arith) (way t .product .l-product .ensures) (t .write-u-column .ensures) (omega (arith, g)) (restore .ensures)
 
 same-length-5 : tie.Need-same-length-5
@@ -72,7 +75,7 @@ returns-2 c =
     let t : tie.After-write-u-column = search in
     let a = way t .start .args in
     let p = way t .start .pre in
-    last-column-outcome (ieee binary64) (a .numerics .epsilon) (a .numerics .tiny) (a .stride) (a .n) (a .column) (now (a .l)) (now (a .u))
+    last-column-outcome N (a .numerics .epsilon) (a .numerics .tiny) (a .stride) (a .n) (a .column) (now (a .l)) (now (a .u))
     (now (a .y)) (now (a .z)) (now (a .w)) _ _ (omega arith) (omega arith) (way t .product .l-product .ensures) (t .write-u-column .ensures) (omega arith)
 
 pub replace-column-spec : {M : Type 1} → statement M

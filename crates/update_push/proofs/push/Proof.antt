@@ -5,11 +5,14 @@ use native.Mathlib.Omega.{arith}
 use lib.Ieee.{binary64}
 use lib.ListN.{length-set}
 use denote.Ref.{now}
-use Rattle.numbers.specs.NumberForm.{ieee}
+use Rattle.numbers.specs.NumberForm.{NumberForm, ieee}
 use Rattle.buffers.proofs.Buffers.{room-kept}
 use Rattle.update_push.proofs.Border.{push-outcome}
 use Rattle.update_push.proofs.push.Statement.{statement}
 use Rattle.update_push.proofs.push.Tie as tie
+
+abbrev N : NumberForm
+N = ieee binary64
 
 -- The places before U's column is written.
 record Way : Type 0 where
@@ -61,7 +64,7 @@ forward-requires c κs =
     let t : tie.After-write-u-column = search in
     let a = way t .start .args in
     let p = way t .start .pre in (
-      room-kept (ieee binary64) (p .0) (way t .unit .set-unit-row .ensures .kept .long ∙ way t .cleared .clear-l-column .ensures .kept .long)
+      room-kept N (p .0) (way t .unit .set-unit-row .ensures .kept .long ∙ way t .cleared .clear-l-column .ensures .kept .long)
           (rw length-set (t .write-u-column .ensures .kept .long)),
       (omega arith, (omega arith, (omega arith, (omega arith, omega arith)))),
     )
@@ -91,7 +94,7 @@ returns c =
     let a = way t .start .args in
     let p = way t .start .pre in
     let k = write-u-column .ensures .kept .long in
-    push-outcome (ieee binary64) (a .numerics .epsilon) (a .numerics .tiny) (a .stride) (a .n) (u-index .result) (now (a .l)) (now (a .u)) (now (a .y))
+    push-outcome N (a .numerics .epsilon) (a .numerics .tiny) (a .stride) (a .n) (u-index .result) (now (a .l)) (now (a .u)) (now (a .y))
     (now (a .z)) (now (a .w)) _ _ _ _ (omega arith) (omega arith) (way t .product .l-product .ensures) (way t .cleared .clear-l-column .ensures)
     (way t .unit .set-unit-row .ensures) (write-u-column .ensures) (u-index .ensures .0) (omega arith) (forward .ensures)
 

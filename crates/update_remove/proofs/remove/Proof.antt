@@ -4,12 +4,15 @@ use mathlib.Core.Path.{_∙_}
 use native.Mathlib.Omega.{arith}
 use lib.Ieee.{binary64}
 use denote.Ref.{now}
-use Rattle.numbers.specs.NumberForm.{ieee}
+use Rattle.numbers.specs.NumberForm.{NumberForm, ieee}
 use Rattle.buffers.proofs.Buffers.{room-kept}
 use Rattle.stages.proofs.StageLaws.{backward-counted-le, column-dropped-counted-le}
 use Rattle.update_remove.proofs.Removed.{remove-outcome}
 use Rattle.update_remove.proofs.remove.Statement.{statement}
 use Rattle.update_remove.proofs.remove.Tie as tie
+
+abbrev N : NumberForm
+N = ieee binary64
 
 -- The places before L's column is read.
 record Way : Type 0 where
@@ -42,7 +45,7 @@ backward-requires c κs =
     let a = way r .start .args in
     let p = way r .start .pre in
     let d = way r .dropped .drop-column .ensures .0 .frame in (
-      room-kept (ieee binary64) (p .0) (copy-l-column .ensures .kept .long ∙ d .l-kept .long) (d .u-kept .long),
+      room-kept N (p .0) (copy-l-column .ensures .kept .long ∙ d .l-kept .long) (d .u-kept .long),
       (omega arith, (rw (r .read-l-column .ensures .kept .long, d .w-kept .long) (omega arith), (omega arith, (omega arith, (omega arith, omega arith))))),
     )
 
@@ -53,8 +56,8 @@ add-result c =
     let r : tie.After-read-l-column = search in
     let a = way r .start .args in
     let p = way r .start .pre in
-    let k = column-dropped-counted-le (ieee binary64) (a .numerics .epsilon) (a .numerics .tiny) _ _ _ _ (way r .dropped .drop-column .ensures .1) in
-    let b = backward-counted-le (ieee binary64) (a .numerics .epsilon) (a .numerics .tiny) _ _ _ _ (backward .ensures .1) in
+    let k = column-dropped-counted-le N (a .numerics .epsilon) (a .numerics .tiny) _ _ _ _ (way r .dropped .drop-column .ensures .1) in
+    let b = backward-counted-le N (a .numerics .epsilon) (a .numerics .tiny) _ _ _ _ (backward .ensures .1) in
     omega arith
 
 same-length : tie.Need-same-length
@@ -80,7 +83,7 @@ returns c =
     let r : tie.After-read-l-column = search in
     let a = way r .start .args in
     let p = way r .start .pre in
-    remove-outcome (ieee binary64) (a .numerics .epsilon) (a .numerics .tiny) (a .stride) (a .n) (a .row) (a .column) (now (a .l)) (now (a .u))
+    remove-outcome N (a .numerics .epsilon) (a .numerics .tiny) (a .stride) (a .n) (a .row) (a .column) (now (a .l)) (now (a .u))
     (now (a .y)) (now (a .z)) (now (a .w)) _ _ _ _ _ (omega arith) (omega arith) (way r .dropped .drop-column .ensures .0) (r .read-l-column .ensures) (copy-l-column .ensures)
     (way r .dropped .drop-column .ensures .1) (backward .ensures)
 

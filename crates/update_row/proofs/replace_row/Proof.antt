@@ -4,12 +4,15 @@ use mathlib.Core.Path.{refl, _∙_}
 use native.Mathlib.Omega.{arith}
 use lib.Ieee.{binary64}
 use denote.Ref.{now}
-use Rattle.numbers.specs.NumberForm.{ieee}
+use Rattle.numbers.specs.NumberForm.{NumberForm, ieee}
 use Rattle.buffers.proofs.Buffers.{room-kept}
 use Rattle.stages.proofs.StageLaws.{forward-counted-le, backward-counted-le}
 use Rattle.update_row.proofs.RowReplaced.{replace-row-outcome}
 use Rattle.update_row.proofs.replace_row.Statement.{statement}
 use Rattle.update_row.proofs.replace_row.Tie as tie
+
+abbrev N : NumberForm
+N = ieee binary64
 
 -- The places before the row is trimmed.
 record Way : Type 0 where
@@ -41,7 +44,7 @@ backward-requires c κs =
     let t : tie.After-trim = search in
     let p = way t .start .pre in
     let e = t .trim .ensures in (
-      room-kept (ieee binary64) (p .0) (way t .cleared .clear-l-column .ensures .kept .long) refl,
+      room-kept N (p .0) (way t .cleared .clear-l-column .ensures .kept .long) refl,
       (omega arith, (rw (way t .read .read-l-column .ensures .kept .long) (omega arith), (omega arith, (omega arith, (omega arith, omega arith))))),
     )
 
@@ -65,7 +68,7 @@ forward-requires c κs =
     let p = way t .start .pre in
     let e = t .trim .ensures in
     let k = b .backward .ensures .0 .frame in (
-      room-kept (ieee binary64) (p .0) (u .set-unit-row .ensures .kept .long ∙ k .l-kept .long ∙ way t .cleared .clear-l-column .ensures .kept .long) (k .u-kept .long),
+      room-kept N (p .0) (u .set-unit-row .ensures .kept .long ∙ k .l-kept .long ∙ way t .cleared .clear-l-column .ensures .kept .long) (k .u-kept .long),
       (omega arith, (omega arith, (omega arith, (omega arith, omega arith)))),
     )
 
@@ -78,8 +81,8 @@ add-result c =
     let a = way t .start .args in
     let p = way t .start .pre in
     let e = t .trim .ensures in
-    let k = backward-counted-le (ieee binary64) (a .numerics .epsilon) (a .numerics .tiny) _ _ _ _ (b .backward .ensures .1) in
-    let f = forward-counted-le (ieee binary64) (a .numerics .epsilon) (a .numerics .tiny) _ _ _ _ (n .forward .ensures .1) in
+    let k = backward-counted-le N (a .numerics .epsilon) (a .numerics .tiny) _ _ _ _ (b .backward .ensures .1) in
+    let f = forward-counted-le N (a .numerics .epsilon) (a .numerics .tiny) _ _ _ _ (n .forward .ensures .1) in
     omega arith
 
 same-length : tie.Need-same-length
@@ -115,7 +118,7 @@ returns c =
     let w = way t in
     let a = w .start .args in
     let p = w .start .pre in
-    replace-row-outcome (ieee binary64) (a .numerics .epsilon) (a .numerics .tiny) (a .stride) (a .n) (a .row) (t .trim .result) (now (a .l))
+    replace-row-outcome N (a .numerics .epsilon) (a .numerics .tiny) (a .stride) (a .n) (a .row) (t .trim .result) (now (a .l))
     (now (a .u)) (now (a .y)) (now (a .z)) (now (a .w)) _ _ (omega (arith, p)) (omega (arith, p))
     (w .read .read-l-column .ensures) (w .cleared .clear-l-column .ensures) (t .trim .ensures .0) (b .backward .ensures .0) (u .set-unit-row .ensures) (f .forward .ensures .0)
     (b .backward .ensures .1) (f .forward .ensures .1)

@@ -3,11 +3,14 @@ use borrow.Author.Needs.{needs}
 use native.Mathlib.Omega.{arith}
 use denote.Ref.{now}
 use lib.Ieee.{binary64}
-use Rattle.numbers.specs.NumberForm.{ieee}
+use Rattle.numbers.specs.NumberForm.{NumberForm, ieee}
 use Rattle.numbers.specs.Tolerances.{zeroBasedEpsilon, zeroBasedTiny}
 use Rattle.zero_based_updates.proofs.Calls.{push-performed, column-performed, row-performed, remove-performed}
 use Rattle.zero_based_updates.proofs.perform.Statement.{statement}
 use Rattle.zero_based_updates.proofs.perform.Tie as tie
+
+abbrev N : NumberForm
+N = ieee binary64
 
 -- The places before the mode is looked at.
 record Way : Type 0 where
@@ -72,7 +75,7 @@ returns c =
     let b = push-way t .based .zero-based .ensures in
     let a = push-way t .start .args in
     let push = let e : tie.After-push = search in e .push in
-    push-performed (ieee binary64) zeroBasedEpsilon zeroBasedTiny (b .0) (b .1) (a .mode) (a .stride) (a .n) (a .row) (a .column) (now (a .l)) (now (a .u)) (now (a .y)) (now (a .z)) (now (a .w))
+    push-performed N zeroBasedEpsilon zeroBasedTiny (b .0) (b .1) (a .mode) (a .stride) (a .n) (a .row) (a .column) (now (a .l)) (now (a .u)) (now (a .y)) (now (a .z)) (now (a .w))
     (t .if1 .taken)
     (push .ensures)
 
@@ -99,7 +102,7 @@ returns-2 c =
     let a = column-way t .start .args in
     let p = column-way t .start .pre in
     let replace-column = let e : tie.After-replace-column = search in e .replace-column in
-    column-performed (ieee binary64) zeroBasedEpsilon zeroBasedTiny (b .0) (b .1) (a .mode) (a .stride) (a .n) (a .row) (a .column) (now (a .l)) (now (a .u)) (now (a .y)) (now (a .z)) (now (a .w)) (t .if2 .taken)
+    column-performed N zeroBasedEpsilon zeroBasedTiny (b .0) (b .1) (a .mode) (a .stride) (a .n) (a .row) (a .column) (now (a .l)) (now (a .u)) (now (a .y)) (now (a .z)) (now (a .w)) (t .if2 .taken)
     (p .1 .1 .1 .1 .1 .1 .1 .1 .0 (t .if2 .taken))
     (replace-column .ensures)
 
@@ -127,7 +130,7 @@ returns-3 c =
     let a = row-way t .start .args in
     let p = row-way t .start .pre in
     let replace-row = let e : tie.After-replace-row = search in e .replace-row in
-    row-performed (ieee binary64) zeroBasedEpsilon zeroBasedTiny (b .0) (b .1) (a .mode) (a .stride) (a .n) (a .row) (a .column) (now (a .l)) (now (a .u)) (now (a .y)) (now (a .z)) (now (a .w)) (t .if3 .taken)
+    row-performed N zeroBasedEpsilon zeroBasedTiny (b .0) (b .1) (a .mode) (a .stride) (a .n) (a .row) (a .column) (now (a .l)) (now (a .u)) (now (a .y)) (now (a .z)) (now (a .w)) (t .if3 .taken)
     (p .1 .1 .1 .1 .1 .1 .1 .0 (omega arith))
     (replace-row .ensures)
 
@@ -157,7 +160,7 @@ returns-4 c =
     let a = remove-way t .start .args in
     let p = remove-way t .start .pre in
     let remove = let e : tie.After-remove = search in e .remove in
-    remove-performed (ieee binary64) zeroBasedEpsilon zeroBasedTiny (b .0) (b .1) (a .mode) (a .stride) (a .n) (a .row) (a .column) (now (a .l)) (now (a .u)) (now (a .y)) (now (a .z)) (now (a .w)) (omega arith)
+    remove-performed N zeroBasedEpsilon zeroBasedTiny (b .0) (b .1) (a .mode) (a .stride) (a .n) (a .row) (a .column) (now (a .l)) (now (a .u)) (now (a .y)) (now (a .z)) (now (a .w)) (omega arith)
     (remove .ensures)
 
 pub perform-spec : {M : Type 1} → statement M
