@@ -9,7 +9,7 @@ use Rattle.numbers.specs.Tolerances.{managedEpsilon, managedTiny}
 use Rattle.machine.specs.Calls.{Call, replaceRow, replaceColumn, solve, solveTranspose, Answer, numberOf, isUpdate}
 use Rattle.machine.specs.Machine.{accepted}
 use Rattle.managed.specs.Instance.{StateValue, stateValue, Instance, instance, view}
-use Rattle.managed.specs.Outcome.{Report, report}
+use Rattle.managed.specs.Outcome.{report}
 use Rattle.managed.specs.Demands.{ManagedOutcome}
 use Rattle.managed.proofs.Outcomes.{dimension-stays}
 use Rattle.managed.proofs.Counted.{withCounter, solve-at-any}

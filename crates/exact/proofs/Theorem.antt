@@ -1,18 +1,17 @@
 -- After every list of calls from dimension zero, L × A = U, and L sends only the zero column to zero, A being what the accepted calls spell out.
 use mathlib.Core.Path.{_≡_, refl, sym, ap, subst, _∙_}
-use mathlib.Core.Bool.{Bool, true, false, not, _&&_, cond}
+use mathlib.Core.Bool.{cond}
 use mathlib.Core.List.{List, [], _∷_}
 use mathlib.Core.Logic.{_≢_}
 use mathlib.Core.Option.{Option, none, some}
 use Prim.Native.Nat.{ℕ, _<_}
 use native.Mathlib.Omega.{arith}
 use lib.Dec.{leb, eqb}
-use lib.ListN.{length}
 use borrow.Author.Tests.{eqb-true, eqb-false}
 use Rattle.numbers.specs.NumberForm.{NumberForm}
 use Rattle.machine.specs.Tables.{Table, State}
 use Rattle.machine.specs.Products.{product}
-use Rattle.machine.specs.Calls.{Call, push, replaceRow, replaceColumn, remove, solve, solveTranspose, Answer, refused, numberOf, _orElse_, refuseIf}
+use Rattle.machine.specs.Calls.{Call, push, replaceRow, replaceColumn, remove, solve, solveTranspose, Answer, refused, numberOf}
 use Rattle.machine.specs.Machine.{refusal, accepted, stepUnder, step, run}
 use Rattle.machine.proofs.Refusals.{or-else-none, index-within}
 use Rattle.machine.proofs.Numbered.{refusal-numbered, accepted-is-0}

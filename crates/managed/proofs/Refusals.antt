@@ -8,7 +8,7 @@ use native.Mathlib.Omega.{arith}
 use lib.Dec.{T as So, ltb, eqb, ltb→lt, eqb→eq, nltb→le}
 use lib.ListN.{length}
 use Rattle.numbers.specs.NumberForm.{NumberForm}
-use Rattle.machine.specs.Calls.{Call, Answer, _orElse_, refuseIf, isPush, isUpdate}
+use Rattle.machine.specs.Calls.{Call, Answer, refuseIf, isPush, isUpdate}
 use Rattle.machine.specs.Machine.{refusal}
 use Rattle.machine.proofs.Choice.{neqb→ne}
 use Rattle.machine.proofs.Refusals.{or-else-none, or-else-last, refuse-if-none, refuse-if-false, equations-hold}

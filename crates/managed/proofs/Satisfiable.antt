@@ -11,7 +11,7 @@ use lib.ListN.{length}
 use borrow.Author.Tests.{eq-eqb}
 use Rattle.numbers.specs.NumberForm.{NumberForm}
 use Rattle.machine.specs.Tables.{State}
-use Rattle.machine.specs.Calls.{Call, push, replaceRow, replaceColumn, remove, solve, solveTranspose, Answer, Result, given, isPush, isUpdate}
+use Rattle.machine.specs.Calls.{Call, push, replaceRow, replaceColumn, remove, solve, solveTranspose, Answer, given, isPush, isUpdate}
 use Rattle.machine.specs.Machine.{accepted, stepUnder}
 use Rattle.machine.specs.Counts.{acceptedCount}
 use Rattle.machine.specs.Agreement.{Agree, AgreeCounted}

@@ -3,7 +3,6 @@ use mathlib.Core.Path.{_≡_}
 use mathlib.Core.List.{List}
 use Prim.Native.Nat.{ℕ, _+_, _<_}
 use Rattle.numbers.specs.NumberForm.{NumberForm}
-use Rattle.numbers.specs.PairStep.{first}
 use Rattle.machine.specs.Tables.{Vector}
 use Rattle.machine.specs.Products.{entry}
 use Rattle.storage.specs.Views.{Kept}

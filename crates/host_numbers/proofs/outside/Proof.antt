@@ -1,7 +1,5 @@
 -- `outside`: a negative index apart.
 use borrow.Author.Needs.{needs}
-use Prim.Native.Nat.{_-_}
-use Rattle.host_numbers.specs.Numbers.{outside}
 use Rattle.host_numbers.proofs.Sizes.{outside-negative, outside-whole}
 use Rattle.host_numbers.proofs.outside.Statement.{statement}
 use Rattle.host_numbers.proofs.outside.Tie as tie

@@ -1,5 +1,4 @@
 -- `size`: a negative number apart.
-use Prim.Native.Nat.{_-_}
 use native.Mathlib.Omega.{arith}
 use Rattle.host_numbers.proofs.Sizes.{size-negative, size-whole}
 use Rattle.host_numbers.proofs.size.Statement.{statement}

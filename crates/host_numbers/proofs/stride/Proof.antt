@@ -1,7 +1,6 @@
 -- `stride`: the larger of two.
 use borrow.Author.Needs.{needs}
 use mathlib.Core.Path.{ap, _∙_}
-use Prim.Native.Nat.{_-_}
 use native.Mathlib.Omega.{arith}
 use mir.Facts.{toZ-ofZ}
 use Rattle.host_numbers.specs.Numbers.{sizeOf}

@@ -1,7 +1,6 @@
 -- `LUmod`: refused with 11, refused with 12, or performed.
 use borrow.Author.Needs.{needs}
 use mathlib.Core.Path.{_≡_, sym, ap, _∙_}
-use Prim.Native.Nat.{_-_}
 use native.Mathlib.Omega.{arith}
 use mir.Facts.{toZ-ofZ}
 use denote.Ref.{now}

@@ -45,7 +45,7 @@ remove-requires c κs =
     let e : tie.After-enum-told = search in
     let t : tie.After-test-remove = search in
     let r = remove-passed _ _ _ _ _ (passed-none (t .test-remove .ensures) (e .enum-told .given .1)) in
-    (room N _ (r .0 .storage .dimension) (r .0 .storage), (r .0 .y, (r .0 .z, (r .0 .w, (r .1, r .2)))))
+    (room N _ (r .0 .storage .dimension) (r .0 .storage), (r .0 .y, (r .0 .z, (r .0 .w, (omega (arith, r .1, r .2), omega (arith, r .1, r .2))))))
 
 sub-t14 : tie.Need-sub-t14
 sub-t14 c =

@@ -42,7 +42,7 @@ replace-row-requires c κs =
     let e : tie.After-enum-told = search in
     let t : tie.After-test-replacement = search in
     let r = replacement-passed _ _ _ _ _ _ (passed-none (t .test-replacement .ensures) (e .enum-told .given .1)) in
-    (room N _ (r .0 .storage .dimension) (r .0 .storage), (r .0 .y, (r .0 .z, (r .0 .w, (omega (arith, r .2), r .1)))))
+    (room N _ (r .0 .storage .dimension) (r .0 .storage), (r .0 .y, (r .0 .z, (r .0 .w, (omega (arith, r .2), omega (arith, r .1))))))
 
 same-length : tie.Need-same-length
 same-length c = search needs

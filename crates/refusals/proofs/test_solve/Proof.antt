@@ -1,6 +1,8 @@
 -- `test_solve`: each way through its tests.
 use mathlib.Core.Path.{refl, sym, _∙_}
 use mathlib.Core.Option.{none}
+use mathlib.Core.Logic.{_≢_}
+use native.Mathlib.Omega.{arith}
 use borrow.Author.Tests.{eq-eqb, ne-eqb}
 use borrow.Author.Needs.{needs}
 use Rattle.machine.proofs.Refusals.{or-else-last}
@@ -22,7 +24,11 @@ returns : tie.Need-returns
 returns c = refused-first (refused-first (c .before .before .test-storage .ensures) _ none (c .enum-told2 .given .1)) _ _ (c .enum-told2 .given .1)
 
 returns-2 : tie.Need-returns-2
-returns-2 c = rw (passed-none (c .before .before .before .test-storage .ensures) (c .before .enum-told .given .1), ne-eqb _ _ (c .if1 .taken))
+returns-2 c =
+    let start : tie.Start = search in
+    let a = start .args in
+    let other : a .rhs ≢ a .n = λ e. omega (arith, e, c .if1 .taken) in
+    rw (passed-none (c .before .before .before .test-storage .ensures) (c .before .enum-told .given .1), ne-eqb _ _ other)
 
 test-diagonals-requires : tie.Need-test-diagonals-requires
 test-diagonals-requires c κs =

@@ -1,7 +1,6 @@
 -- `index_outside`: the two modes that use the index.
 use borrow.Author.Needs.{needs}
 use mathlib.Core.Path.{ap, _∙_}
-use Prim.Native.Nat.{_-_}
 use borrow.Author.Tests.{eq-eqb, ne-eqb}
 use mir.Facts.{toZ-ofZ}
 use lib.IntN.{ℤ}

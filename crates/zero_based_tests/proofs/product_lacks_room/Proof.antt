@@ -1,5 +1,4 @@
 -- `product_lacks_room`: test by test.
-use Prim.Native.Nat.{_-_}
 use native.Mathlib.Omega.{arith}
 use borrow.Author.Tests.{lt-ltb, le-ltb}
 use Rattle.zero_based_tests.specs.Refusals.{productLacksRoom}

@@ -1,6 +1,5 @@
 -- `solve_lacks_room`: test by test.
 use borrow.Author.Needs.{needs}
-use Prim.Native.Nat.{_-_}
 use native.Mathlib.Omega.{arith}
 use borrow.Author.Tests.{lt-ltb, le-ltb}
 use Rattle.zero_based_tests.specs.Refusals.{solveLacksRoom}
