@@ -6,10 +6,12 @@ use Rattle.machine.specs.Counter.{CounterTable, counterTable}
 use Rattle.machine.specs.Machine as machine
 use Rattle.machine.specs.Solves.{FirstDiagonal, firstDiagonal}
 use Rattle.storage.specs.Places.{PlaceTable, placeTable}
+use Rattle.storage.specs.Lengths.{LengthsTable, lengthsTable}
 use Rattle.managed.specs.Refusals.{RefusalOrder, refusalOrder}
 
 pub record BenchTable : Type 0 where
   pub places : PlaceTable
+  pub lengths : LengthsTable
   pub pairs : PairTable
   pub calls : CallTable
   pub traps : TrapTable
@@ -22,6 +24,7 @@ pub record BenchTable : Type 0 where
 pub benchTable : BenchTable
 benchTable = record {
   places = placeTable;
+  lengths = lengthsTable;
   pairs = pairTable;
   calls = callTable;
   traps = trapTable;
