@@ -11,7 +11,7 @@ use Rattle.numbers.specs.NumberForm.{NumberForm}
 use Rattle.machine.specs.Tables.{Table, State}
 use Rattle.machine.specs.Solves.{diagonals}
 use Rattle.machine.specs.Calls.{Call, push, replaceRow, replaceColumn, remove, solve, solveTranspose, Answer, refused, refusedAt, numberOf, _orElse_, refuseIf}
-use Rattle.machine.specs.Machine.{replacementTests, removeTests, solveTests, refusal, accepted}
+use Rattle.machine.specs.Machine.{replacementTests, removeTests, rhsTest, refusal, accepted}
 use Rattle.machine.proofs.Refusals.{none-is-some}
 
 abbrev pub Numbered : Option Answer → Type 0
@@ -58,7 +58,7 @@ module _ (N : NumberForm) where
   diagonals-numbered U zero = none-numbered
   diagonals-numbered U (suc k) = either-numbered _ _ (diagonals-numbered U k) (diagonal-numbered (isZero (U k k)) (isFinite (U k k)) k)
 
-  solve-numbered : (S : State Value) (b : List Value) → Numbered (solveTests (S .n) (length b) orElse diagonals N (S .U) (S .n))
+  solve-numbered : (S : State Value) (b : List Value) → Numbered (rhsTest (S .n) (length b) orElse diagonals N (S .U) (S .n))
   solve-numbered S b = either-numbered _ _ (length-numbered (not (eqb (length b) (S .n)))) (diagonals-numbered (S .U) (S .n))
 
   pub refusal-numbered : (S : State Value) (c : Call Value) → Numbered (refusal N S c)

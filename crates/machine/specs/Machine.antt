@@ -29,8 +29,8 @@ abbrev pub removeTests : ℕ → ℕ → ℕ → Option Answer
 removeTests n row column = refuseIf (leb n row) 5 orElse refuseIf (leb n column) 6
 
 -- solves: 7 for the length of the right-hand side
-abbrev pub solveTests : ℕ → ℕ → Option Answer
-solveTests n rhs = refuseIf (not (eqb rhs n)) 7
+abbrev pub rhsTest : ℕ → ℕ → Option Answer
+rhsTest n rhs = refuseIf (not (eqb rhs n)) 7
 
 module _ (N : NumberForm) where
   open NumberForm N using (Value)
@@ -41,8 +41,8 @@ module _ (N : NumberForm) where
   refusal S (replaceRow r row) = replacementTests (S .n) r (refused 5) (length row)
   refusal S (replaceColumn k column) = replacementTests (S .n) k (refused 6) (length column)
   refusal S (remove r k) = removeTests (S .n) r k
-  refusal S (solve b) = solveTests (S .n) (length b) orElse diagonals N (S .U) (S .n)
-  refusal S (solveTranspose b) = solveTests (S .n) (length b) orElse diagonals N (S .U) (S .n)
+  refusal S (solve b) = rhsTest (S .n) (length b) orElse diagonals N (S .U) (S .n)
+  refusal S (solveTranspose b) = rhsTest (S .n) (length b) orElse diagonals N (S .U) (S .n)
 
 module _ (N : NumberForm) (E T : N .Value) where
   open NumberForm N using (Value)

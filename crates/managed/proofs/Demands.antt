@@ -12,7 +12,7 @@ use Rattle.numbers.specs.Tolerances.{managedEpsilon, managedTiny}
 use Rattle.machine.specs.Tables.{Table}
 use Rattle.machine.specs.Solves.{diagonals}
 use Rattle.machine.specs.Calls.{Answer, _orElse_}
-use Rattle.machine.specs.Machine.{solveTests, refusal}
+use Rattle.machine.specs.Machine.{rhsTest, refusal}
 use Rattle.machine.proofs.Diagonals.{all-sound, none-if-sound, first-bad}
 use Rattle.machine.proofs.Refusals.{or-else-last}
 use Rattle.storage.specs.Views.{viewU}
@@ -38,7 +38,7 @@ by-diagonal N U n o e = record {
 }
 
 -- a solve whose storage and right-hand side pass is refused by the diagonals alone
-diagonals-decide : (storage : Option Answer) (n rhs : ℕ) (d : Option Answer) → storage ≡ none → rhs ≡ n → ((storage orElse none) orElse ((solveTests n rhs orElse d) orElse none)) ≡ d
+diagonals-decide : (storage : Option Answer) (n rhs : ℕ) (d : Option Answer) → storage ≡ none → rhs ≡ n → ((storage orElse none) orElse ((rhsTest n rhs orElse d) orElse none)) ≡ d
 diagonals-decide storage n rhs d passed long = rw (passed, eq-eqb rhs n long) (or-else-last d none refl)
 
 module _ (F : Format) where

@@ -9,12 +9,12 @@ use lib.ListN.{length}
 use Rattle.numbers.specs.NumberForm.{NumberForm}
 use Rattle.machine.specs.Solves.{diagonals}
 use Rattle.machine.specs.Calls.{push, replaceRow, replaceColumn, remove, solve, solveTranspose, Answer, refused, _orElse_}
-use Rattle.machine.specs.Machine.{pushTests, replacementTests, removeTests, solveTests, refusal}
+use Rattle.machine.specs.Machine.{pushTests, replacementTests, removeTests, rhsTest, refusal}
 use Rattle.machine.proofs.Refusals.{or-else-none, equations-hold, equation-holds, index-within}
 use Rattle.storage.specs.Views.{viewU}
 use Rattle.managed.specs.declared.LentLengths.{LentLengths}
 use Rattle.managed.specs.Instance.{Instance, lengthsOf, StateValue, lentToSolve}
-use Rattle.managed.specs.Refusals.{lentTests, capacityTest, roomTest, updateTests, solveTestsAt, refusalAt}
+use Rattle.managed.specs.Refusals.{lentTests, capacityTest, roomTest, updateTests, solveTests, refusalAt}
 use Rattle.managed.proofs.Refusals.{StoragePassed, storage-passed, OrderPassed, order-passed, UpdatePassed, update-passed, capacity-passed}
 
 -- ---- the order by lengths
@@ -41,12 +41,12 @@ module _ (N : NumberForm) (s : Instance (N .Value)) where
 
 module _ (N : NumberForm) (v : StateValue) (l u rhs : List (N .Value)) where
   pub solve-tested : refusalAt N (lentToSolve v l u) (solve rhs)
-      ≡ solveTestsAt (v .n) (v .capacity) (length l) (length u) (solveTests (v .n) (length rhs) orElse diagonals N (viewU N (v .capacity) u) (v .n))
+      ≡ solveTests (v .n) (v .capacity) (length l) (length u) (rhsTest (v .n) (length rhs) orElse diagonals N (viewU N (v .capacity) u) (v .n))
   unfolding refusalAt refusal
   solve-tested = refl
 
   pub transpose-tested : refusalAt N (lentToSolve v l u) (solveTranspose rhs)
-      ≡ solveTestsAt (v .n) (v .capacity) (length l) (length u) (solveTests (v .n) (length rhs) orElse diagonals N (viewU N (v .capacity) u) (v .n))
+      ≡ solveTests (v .n) (v .capacity) (length l) (length u) (rhsTest (v .n) (length rhs) orElse diagonals N (viewU N (v .capacity) u) (v .n))
   unfolding refusalAt refusal
   transpose-tested = refl
 
@@ -77,7 +77,7 @@ module _ (n c : ℕ) (lent : LentLengths) where
       let both = or-else-none _ _ (p .2) in
       (p .0, index-within n row (refused 5) (both .0), index-within n column (refused 6) (both .1))
 
-pub solve-passed : (n c l u rhs : ℕ) (d : Option Answer) → solveTestsAt n c l u (solveTests n rhs orElse d) ≡ none → StoragePassed n c l u × (rhs ≡ n)
+pub solve-passed : (n c l u rhs : ℕ) (d : Option Answer) → solveTests n c l u (rhsTest n rhs orElse d) ≡ none → StoragePassed n c l u × (rhs ≡ n)
 solve-passed n c l u rhs d e =
     let p = order-passed {capacity = none} {room = none} e in
     (storage-passed n c l u (or-else-none _ _ (p .is-lent) .0), equation-holds rhs n 7 (or-else-none _ d (p .has-indices) .0))

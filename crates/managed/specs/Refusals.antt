@@ -57,8 +57,8 @@ abbrev pub updateTests : ℕ → ℕ → LentLengths → Option Answer → Optio
 updateTests n c lent capacity indices m = inOrder (lentTests true n c lent) capacity indices (roomTest m (lent .y))
 
 -- of a solve, which is lent L and U alone
-abbrev pub solveTestsAt : ℕ → ℕ → ℕ → ℕ → Option Answer → Option Answer
-solveTestsAt n c l u indices = inOrder (lentTests false n c (record { l = l; u = u; y = 0; z = 0; w = 0 })) none indices none
+abbrev pub solveTests : ℕ → ℕ → ℕ → ℕ → Option Answer → Option Answer
+solveTests n c l u indices = inOrder (lentTests false n c (record { l = l; u = u; y = 0; z = 0; w = 0 })) none indices none
 
 module _ {A : Type 0} where
   -- what the call c is lent, tested

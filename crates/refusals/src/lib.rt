@@ -8,10 +8,10 @@ ghost use lib.Ieee.{binary64};
 ghost use Rattle.numbers.specs.NumberForm.{ieee};
 ghost use Rattle.machine.specs.Solves.{diagonals};
 ghost use Rattle.machine.specs.Calls.{_orElse_};
-ghost use Rattle.machine.specs.Machine.{pushTests, replacementTests, removeTests, solveTests};
+ghost use Rattle.machine.specs.Machine.{pushTests, replacementTests, removeTests, rhsTest};
 ghost use Rattle.storage.specs.Places.{uLength};
 ghost use Rattle.storage.specs.Views.{viewU};
-ghost use Rattle.managed.specs.Refusals.{sizeTests, storageTests, lentTests, capacityTest, updateTests, solveTestsAt};
+ghost use Rattle.managed.specs.Refusals.{sizeTests, storageTests, lentTests, capacityTest, updateTests, solveTests};
 ghost use Rattle.refusals.specs.Refusal.{refusalOf, testOf};
 use diagonals::Diagonal;
 use diagonals::test_diagonal;
@@ -168,8 +168,8 @@ pub fn test_diagonals(n: usize, capacity: usize, u: &[f64]) -> Test
 
 // Both solves, with the lengths of L and of the right-hand side: 1, 2, 3, 7, then the diagonal upward.
 pub fn test_solve(n: usize, capacity: usize, l: usize, u: &[f64], rhs: usize) -> Test
-    ensures { λ r. ⌜ testOf r ≡ solveTestsAt n capacity l (length (now (u .entry)))
-        (solveTests n rhs orElse diagonals (ieee binary64) (viewU (ieee binary64) capacity (now (u .entry))) n) ⌝ }
+    ensures { λ r. ⌜ testOf r ≡ solveTests n capacity l (length (now (u .entry)))
+        (rhsTest n rhs orElse diagonals (ieee binary64) (viewU (ieee binary64) capacity (now (u .entry))) n) ⌝ }
 {
     let storage = test_storage(n, capacity, l, u.len());
     let Test::Passed = storage else {
