@@ -14,12 +14,12 @@ ghost use Rattle.buffers.specs.Performed.{workOf, Room, Performed};
 ghost use Rattle.stages.specs.Stages.{LUpdated};
 use backward::backward;
 use backward::trim;
+use columns::read_u_column;
+use columns::write_u_column;
 use forward::forward;
 use numerics::tolerance::Numerics;
 use ranges::fill;
 use storage::l_index;
-use u_columns::read_u_column;
-use u_columns::write_u_column;
 
 // L's row `row` becomes 0 with 1 at `column`, in the first n columns.
 pub fn set_unit_row(row: usize, column: usize, n: usize, stride: usize, l: &mut [f64])

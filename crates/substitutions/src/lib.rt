@@ -8,9 +8,9 @@ ghost use Rattle.machine.specs.Solves.{backSubstitution, forwardSubstitution};
 ghost use Rattle.storage.specs.Places.{uLength};
 ghost use Rattle.storage.specs.Views.{viewU};
 ghost use Rattle.ranges.specs.Written.{Written};
+use columns::dot_u_column;
 use ranges::dot;
 use storage::u_index;
-use u_columns::dot_u_column;
 
 // Solves with U in place, from row n - 1 down to 0. No diagonal is tested.
 pub fn back_substitute(n: usize, stride: usize, u: &[f64], b: &mut [f64])

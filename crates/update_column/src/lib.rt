@@ -6,10 +6,10 @@ ghost use Rattle.numbers.specs.NumberForm.{ieee};
 ghost use Rattle.machine.specs.Calls as calls;
 ghost use Rattle.storage.specs.Updated.{CarriedOut};
 ghost use Rattle.buffers.specs.Performed.{Room};
+use columns::write_u_column;
 use numerics::tolerance::Numerics;
 use products::l_product;
 use stages::restore;
-use u_columns::write_u_column;
 
 // Replaces a column of the matrix by z. It answers how many pair steps it made.
 pub fn replace_column(

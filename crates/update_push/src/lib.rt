@@ -7,13 +7,13 @@ ghost use Rattle.machine.specs.Products.{entry};
 ghost use Rattle.machine.specs.Calls as calls;
 ghost use Rattle.storage.specs.Updated.{CarriedOut};
 ghost use Rattle.buffers.specs.Performed.{Room};
+use columns::clear_l_column;
+use columns::write_u_column;
 use forward::forward;
-use l_columns::clear_l_column;
 use numerics::tolerance::Numerics;
 use products::l_product;
 use stages::set_unit_row;
 use storage::u_index;
-use u_columns::write_u_column;
 
 // Appends a row and a column to the matrix; n is the new dimension, y holds the row with the diagonal behind it, and z the column.
 // It answers how many pair steps it made.

@@ -7,8 +7,8 @@ ghost use Rattle.machine.specs.Calls as calls;
 ghost use Rattle.storage.specs.Updated.{CarriedOut};
 ghost use Rattle.buffers.specs.Performed.{Room};
 use backward::backward;
-use l_columns::copy_l_column;
-use l_columns::read_l_column;
+use columns::copy_l_column;
+use columns::read_l_column;
 use numerics::tolerance::Numerics;
 use stages::drop_column;
 

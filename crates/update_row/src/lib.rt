@@ -8,9 +8,9 @@ ghost use Rattle.storage.specs.Updated.{CarriedOut};
 ghost use Rattle.buffers.specs.Performed.{Room};
 use backward::backward;
 use backward::trim;
+use columns::clear_l_column;
+use columns::read_l_column;
 use forward::forward;
-use l_columns::clear_l_column;
-use l_columns::read_l_column;
 use numerics::tolerance::Numerics;
 use stages::set_unit_row;
 

@@ -8,8 +8,8 @@ use Rattle.numbers.specs.NumberForm.{NumberForm, ieee}
 use Rattle.storage.specs.Views.{viewL}
 use Rattle.ranges.specs.Written.{Written}
 use Rattle.ranges.proofs.Writing.{written-none, written-more, apart}
-use Rattle.l_columns.proofs.read_l_column.Statement.{statement}
-use Rattle.l_columns.proofs.read_l_column.Tie as tie
+use Rattle.columns.proofs.read_l_column.Statement.{statement}
+use Rattle.columns.proofs.read_l_column.Tie as tie
 
 abbrev N : NumberForm
 N = ieee binary64

@@ -8,8 +8,8 @@ use Rattle.numbers.specs.NumberForm.{NumberForm, ieee}
 use Rattle.storage.specs.Views.{viewU}
 use Rattle.ranges.specs.Written.{Written}
 use Rattle.ranges.proofs.Writing.{written-none, written-more, apart}
-use Rattle.u_columns.proofs.read_u_column.Statement.{statement}
-use Rattle.u_columns.proofs.read_u_column.Tie as tie
+use Rattle.columns.proofs.read_u_column.Statement.{statement}
+use Rattle.columns.proofs.read_u_column.Tie as tie
 
 abbrev N : NumberForm
 N = ieee binary64

@@ -8,8 +8,8 @@ use Rattle.numbers.specs.NumberForm.{NumberForm, ieee}
 use Rattle.machine.specs.Products.{entry, sum}
 use Rattle.storage.specs.Views.{viewU}
 use Rattle.ranges.proofs.Writing.{sum-none, sum-more}
-use Rattle.u_columns.proofs.dot_u_column.Statement.{statement}
-use Rattle.u_columns.proofs.dot_u_column.Tie as tie
+use Rattle.columns.proofs.dot_u_column.Statement.{statement}
+use Rattle.columns.proofs.dot_u_column.Tie as tie
 
 abbrev N : NumberForm
 N = ieee binary64

@@ -9,9 +9,9 @@ use Rattle.machine.specs.Products.{entry}
 use Rattle.storage.specs.Places.{uIndex}
 use Rattle.ranges.specs.Written.{Written}
 use Rattle.ranges.proofs.Writing.{written-none, stored}
-use Rattle.u_columns.proofs.ColumnPlaces.{uIndex-column-apart}
-use Rattle.u_columns.proofs.write_u_column.Statement.{statement}
-use Rattle.u_columns.proofs.write_u_column.Tie as tie
+use Rattle.columns.proofs.ColumnPlaces.{uIndex-column-apart}
+use Rattle.columns.proofs.write_u_column.Statement.{statement}
+use Rattle.columns.proofs.write_u_column.Tie as tie
 
 abbrev N : NumberForm
 N = ieee binary64
