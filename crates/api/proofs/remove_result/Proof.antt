@@ -7,21 +7,6 @@ use Rattle.managed.specs.Outcome.{report}
 use Rattle.api.proofs.remove_result.Statement.{statement}
 use Rattle.api.proofs.remove_result.Tie as tie
 
-state-after-requires : tie.Need-state-after-requires
-state-after-requires c κs = search needs
-
-steps-of-requires : tie.Need-steps-of-requires
-steps-of-requires c κs = search needs
-
-enum-known-update : tie.Need-enum-known-update
-enum-known-update c = search needs
-
-what-moved-requires : tie.Need-what-moved-requires
-what-moved-requires c κs = search needs
-
-enum-known-update-2 : tie.Need-enum-known-update-2
-enum-known-update-2 c = search needs
-
 returns : tie.Need-returns
 returns c =
     let u : tie.After-update = search in
@@ -44,10 +29,10 @@ pub remove-result-spec : {M : Type 1} → statement M
 remove-result-spec =
     tie.close
     (tie.spec
-    state-after-requires
-    steps-of-requires
-    enum-known-update
-    what-moved-requires
-    enum-known-update-2
+    (λ c κs. search needs)
+    (λ c κs. search needs)
+    (λ c. search needs)
+    (λ c κs. search needs)
+    (λ c. search needs)
     returns
     returns-2)

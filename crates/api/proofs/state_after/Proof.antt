@@ -5,15 +5,6 @@ use Rattle.managed.specs.Instance.{stateValue}
 use Rattle.api.proofs.state_after.Statement.{statement}
 use Rattle.api.proofs.state_after.Tie as tie
 
-enum-known-update : tie.Need-enum-known-update
-enum-known-update c = search needs
-
-added-requires : tie.Need-added-requires
-added-requires c κs = search needs
-
-enum-told : tie.Need-enum-told
-enum-told c = search needs
-
 returns : tie.Need-returns
 returns c = let u : tie.After-update = search in rw (u .update .given .1) (ap (stateValue _ _) (c .added .ensures))
 
@@ -22,4 +13,4 @@ returns-2 c = rw (c .enum-told .given .1) refl
 
 pub state-after-spec : {M : Type 1} → statement M
 state-after-spec =
-    tie.close (tie.spec enum-known-update added-requires enum-told returns returns-2)
+    tie.close (tie.spec (λ c. search needs) (λ c κs. search needs) (λ c. search needs) returns returns-2)

@@ -6,18 +6,6 @@ use Rattle.managed.specs.Outcome.{report}
 use Rattle.api.proofs.update_result.Statement.{statement}
 use Rattle.api.proofs.update_result.Tie as tie
 
-state-after-requires : tie.Need-state-after-requires
-state-after-requires c κs = search needs
-
-steps-of-requires : tie.Need-steps-of-requires
-steps-of-requires c κs = search needs
-
-enum-told : tie.Need-enum-told
-enum-told c = search needs
-
-enum-known-update : tie.Need-enum-known-update
-enum-known-update c = search needs
-
 returns : tie.Need-returns
 returns c =
     let s : tie.After-steps-of = search in
@@ -36,4 +24,4 @@ returns-2 c =
 pub update-result-spec : {M : Type 1} → statement M
 update-result-spec =
     tie.close
-    (tie.spec state-after-requires steps-of-requires enum-told enum-known-update returns returns-2)
+    (tie.spec (λ c κs. search needs) (λ c κs. search needs) (λ c. search needs) (λ c. search needs) returns returns-2)

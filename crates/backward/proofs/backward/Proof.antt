@@ -30,9 +30,6 @@ way c = search
 u-index-requires : tie.Need-u-index-requires
 u-index-requires c κs = omega arith
 
-sub-copy : tie.Need-sub-copy
-sub-copy c = search needs
-
 copy-requires : tie.Need-copy-requires
 copy-requires c κs =
     let start : tie.Start = search in
@@ -90,7 +87,7 @@ backward-spec =
     tie.close
     (tie.spec
     u-index-requires
-    sub-copy
+    (λ c. search needs)
     copy-requires
     backward-rows-requires
     same-length

@@ -29,9 +29,6 @@ mul-abs c = omega arith
 shared-slice-read-abs : tie.Need-shared-slice-read-abs Inv-loop μ-loop
 shared-slice-read-abs c = omega arith
 
-abs-requires : tie.Need-abs-requires Inv-loop μ-loop
-abs-requires c κs = search needs
-
 sub-selected : tie.Need-sub-selected Inv-loop μ-loop
 sub-selected c = omega arith
 
@@ -64,7 +61,7 @@ trim-spec =
     loop-holds
     mul-abs
     shared-slice-read-abs
-    abs-requires
+    (λ c κs. search needs)
     sub-selected
     loop-less
     loop-again

@@ -38,30 +38,6 @@ record Acted : Type 0 where
 acted : tie.After-transform-rows → Acted
 acted c = search
 
-mul-y : tie.Need-mul-y
-mul-y c = search needs
-
-slice-write-y : tie.Need-slice-write-y
-slice-write-y c = search needs
-
-mul-pivot : tie.Need-mul-pivot
-mul-pivot c = search needs
-
-slice-read-pivot : tie.Need-slice-read-pivot
-slice-read-pivot c = search needs
-
-mul-value : tie.Need-mul-value
-mul-value c = search needs
-
-slice-read-value : tie.Need-slice-read-value
-slice-read-value c = search needs
-
-abs-requires : tie.Need-abs-requires
-abs-requires c κs = search needs
-
-abs-requires-2 : tie.Need-abs-requires-2
-abs-requires-2 c κs = search needs
-
 same-length : tie.Need-same-length
 same-length c = simp length-set
 
@@ -77,20 +53,11 @@ returns c =
       backward-skips-counted N (a .numerics .epsilon) (a .numerics .tiny) (a .stride) (a .row) (a .selected) (a .columns) (now (a .l)) (now (a .u)) (now (a .y)) (now (a .v)) (m .abs2 .ensures) (tested m .value .abs .ensures) (c .if1 .taken),
     )
 
-elementary-requires : tie.Need-elementary-requires
-elementary-requires c κs = search needs
-
-mul-v : tie.Need-mul-v
-mul-v c = search needs
-
 slice-write-v : tie.Need-slice-write-v
 unfolding tested
 slice-write-v c =
     let m : tie.After-abs2 = search in
     let p = tested m .start .pre in omega arith
-
-mul-v-2 : tie.Need-mul-v-2
-mul-v-2 c = search needs
 
 slice-write-v-2 : tie.Need-slice-write-v-2
 unfolding tested
@@ -191,20 +158,20 @@ pub backward-row-spec : {M : Type 1} → statement M
 backward-row-spec =
     tie.close
     (tie.spec
-    mul-y
-    slice-write-y
-    mul-pivot
-    slice-read-pivot
-    mul-value
-    slice-read-value
-    abs-requires
-    abs-requires-2
+    (λ c. search needs)
+    (λ c. search needs)
+    (λ c. search needs)
+    (λ c. search needs)
+    (λ c. search needs)
+    (λ c. search needs)
+    (λ c κs. search needs)
+    (λ c κs. search needs)
     same-length
     returns
-    elementary-requires
-    mul-v
+    (λ c κs. search needs)
+    (λ c. search needs)
     slice-write-v
-    mul-v-2
+    (λ c. search needs)
     slice-write-v-2
     u-index-requires
     sub-transform-slices

@@ -24,9 +24,6 @@ abbrev μ-loop : tie.MeasureT-loop
 loop-holds : tie.Need-loop-holds Inv-loop μ-loop
 loop-holds c = (search needs, written-none N)
 
-l-index-requires : tie.Need-l-index-requires Inv-loop μ-loop
-l-index-requires c κs = search needs
-
 mul-l : tie.Need-mul-l Inv-loop μ-loop
 mul-l c = omega arith
 
@@ -55,7 +52,7 @@ clear-l-column-spec =
     Inv-loop
     μ-loop
     loop-holds
-    l-index-requires
+    (λ c κs. search needs)
     mul-l
     slice-write-l
     add-i

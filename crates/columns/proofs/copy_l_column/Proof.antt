@@ -25,17 +25,11 @@ abbrev μ-loop : tie.MeasureT-loop
 loop-holds : tie.Need-loop-holds Inv-loop μ-loop
 loop-holds c = (search needs, written-none N)
 
-l-index-requires : tie.Need-l-index-requires Inv-loop μ-loop
-l-index-requires c κs = search needs
-
 mul-l : tie.Need-mul-l Inv-loop μ-loop
 mul-l c = omega arith
 
 slice-read-l : tie.Need-slice-read-l Inv-loop μ-loop
 slice-read-l c = omega arith
-
-l-index-requires-2 : tie.Need-l-index-requires-2 Inv-loop μ-loop
-l-index-requires-2 c κs = search needs
 
 mul-l-2 : tie.Need-mul-l-2 Inv-loop μ-loop
 mul-l-2 c = omega arith
@@ -67,10 +61,10 @@ copy-l-column-spec =
     Inv-loop
     μ-loop
     loop-holds
-    l-index-requires
+    (λ c κs. search needs)
     mul-l
     slice-read-l
-    l-index-requires-2
+    (λ c κs. search needs)
     mul-l-2
     slice-write-l
     add-i

@@ -23,9 +23,6 @@ abbrev μ-loop : tie.MeasureT-loop
 loop-holds : tie.Need-loop-holds Inv-loop μ-loop
 loop-holds c = (search needs, sum-none N _)
 
-u-index-requires : tie.Need-u-index-requires Inv-loop μ-loop
-u-index-requires c κs = search needs
-
 mul-value : tie.Need-mul-value Inv-loop μ-loop
 mul-value c = omega arith
 
@@ -57,7 +54,7 @@ dot-u-column-spec =
     Inv-loop
     μ-loop
     loop-holds
-    u-index-requires
+    (λ c κs. search needs)
     mul-value
     shared-slice-read-value
     mul-value-2

@@ -23,9 +23,6 @@ abbrev μ-loop : tie.MeasureT-loop
 loop-holds : tie.Need-loop-holds Inv-loop μ-loop
 loop-holds c = (search needs, written-none N)
 
-l-index-requires : tie.Need-l-index-requires Inv-loop μ-loop
-l-index-requires c κs = search needs
-
 mul-values : tie.Need-mul-values Inv-loop μ-loop
 mul-values c = omega arith
 
@@ -60,7 +57,7 @@ read-l-column-spec =
     Inv-loop
     μ-loop
     loop-holds
-    l-index-requires
+    (λ c κs. search needs)
     mul-values
     shared-slice-read-values
     mul-values-2

@@ -26,9 +26,6 @@ add-i-end c = omega arith
 loop-holds : tie.Need-loop-holds Inv-loop μ-loop
 loop-holds c = (search needs, written-none N)
 
-u-index-requires : tie.Need-u-index-requires Inv-loop μ-loop
-u-index-requires c κs = search needs
-
 mul-values : tie.Need-mul-values Inv-loop μ-loop
 mul-values c = omega arith
 
@@ -64,7 +61,7 @@ read-u-column-spec =
     μ-loop
     add-i-end
     loop-holds
-    u-index-requires
+    (λ c κs. search needs)
     mul-values
     shared-slice-read-values
     mul-values-2

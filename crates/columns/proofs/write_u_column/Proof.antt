@@ -31,9 +31,6 @@ mul-u c = omega arith
 shared-slice-read-u : tie.Need-shared-slice-read-u Inv-loop μ-loop
 shared-slice-read-u c = omega arith
 
-u-index-requires : tie.Need-u-index-requires Inv-loop μ-loop
-u-index-requires c κs = search needs
-
 mul-u-2 : tie.Need-mul-u-2 Inv-loop μ-loop
 mul-u-2 c = omega arith
 
@@ -64,7 +61,7 @@ write-u-column-spec =
     loop-holds
     mul-u
     shared-slice-read-u
-    u-index-requires
+    (λ c κs. search needs)
     mul-u-2
     slice-write-u
     add-i

@@ -19,21 +19,6 @@ record Way : Type 0 where
 way : tie.After-managed → Way
 way c = search
 
-copy-requires : tie.Need-copy-requires
-copy-requires c κs = search needs
-
-mul-y : tie.Need-mul-y
-mul-y c = search needs
-
-slice-write-y : tie.Need-slice-write-y
-slice-write-y c = search needs
-
-add-push : tie.Need-add-push
-add-push c = search needs
-
-managed-requires : tie.Need-managed-requires
-managed-requires c κs = search needs
-
 push-requires : tie.Need-push-requires
 unfolding way
 push-requires c κs =
@@ -42,21 +27,12 @@ push-requires c κs =
     let k = way m .copied .copy .ensures .kept .long in
     (p .0, (rw length-set (omega arith), (omega arith, (omega arith, omega arith))))
 
-same-length : tie.Need-same-length
-same-length c = search needs
-
-same-length-2 : tie.Need-same-length-2
-same-length-2 c = search needs
-
 same-length-3 : tie.Need-same-length-3
 unfolding way
 same-length-3 c =
     let push = let t : tie.After-push = search in t .push in
     let m : tie.After-managed = search in
     (rw length-set at (push .ensures .factors .frame .y-kept .long)) ∙ way m .copied .copy .ensures .kept .long
-
-same-length-4 : tie.Need-same-length-4
-same-length-4 c = search needs
 
 returns : tie.Need-returns
 unfolding way
@@ -74,14 +50,14 @@ pub push-spec : {M : Type 1} → statement M
 push-spec =
     tie.close
     (tie.spec
-    copy-requires
-    mul-y
-    slice-write-y
-    add-push
-    managed-requires
+    (λ c κs. search needs)
+    (λ c. search needs)
+    (λ c. search needs)
+    (λ c. search needs)
+    (λ c κs. search needs)
     push-requires
-    same-length
-    same-length-2
+    (λ c. search needs)
+    (λ c. search needs)
     same-length-3
-    same-length-4
+    (λ c. search needs)
     returns)

@@ -16,30 +16,6 @@ record Way : Type 0 where
 way : tie.After-managed → Way
 way c = search
 
-copy-requires : tie.Need-copy-requires
-copy-requires c κs = search needs
-
-managed-requires : tie.Need-managed-requires
-managed-requires c κs = search needs
-
-replace-row-requires : tie.Need-replace-row-requires
-replace-row-requires c κs = search needs
-
-same-length : tie.Need-same-length
-same-length c = search needs
-
-same-length-2 : tie.Need-same-length-2
-same-length-2 c = search needs
-
-same-length-3 : tie.Need-same-length-3
-same-length-3 c = search needs
-
-same-length-4 : tie.Need-same-length-4
-same-length-4 c = search needs
-
-same-length-5 : tie.Need-same-length-5
-same-length-5 c = search needs
-
 returns : tie.Need-returns
 unfolding way
 returns c =
@@ -55,12 +31,12 @@ pub replace-row-spec : {M : Type 1} → statement M
 replace-row-spec =
     tie.close
     (tie.spec
-    copy-requires
-    managed-requires
-    replace-row-requires
-    same-length
-    same-length-2
-    same-length-3
-    same-length-4
-    same-length-5
+    (λ c κs. search needs)
+    (λ c κs. search needs)
+    (λ c κs. search needs)
+    (λ c. search needs)
+    (λ c. search needs)
+    (λ c. search needs)
+    (λ c. search needs)
+    (λ c. search needs)
     returns)

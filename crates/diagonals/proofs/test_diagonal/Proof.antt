@@ -42,9 +42,6 @@ returns c =
     let start : tie.Start Inv-loop μ-loop = search in
     let h : loop .i < start .args .n = omega arith in zero-found N (start .args .stride) (start .args .n) (loop .i) (u .result) (now (start .args .u)) (u .ensures .0) (loop .inv .1) h (c .if1 .taken)
 
-is-finite-requires : tie.Need-is-finite-requires Inv-loop μ-loop
-is-finite-requires c κs = search needs
-
 returns-2 : tie.Need-returns-2 Inv-loop μ-loop
 returns-2 c =
     let else1 = let place : tie.Else1 Inv-loop μ-loop = search in place .if1 .left in
@@ -81,7 +78,7 @@ test-diagonal-spec =
     mul-value
     shared-slice-read-value
     returns
-    is-finite-requires
+    (λ c κs. search needs)
     returns-2
     add-i
     loop-less

@@ -40,51 +40,6 @@ acted c = search
 u-index-requires : tie.Need-u-index-requires
 u-index-requires c κs = omega arith
 
-mul-pivot : tie.Need-mul-pivot
-mul-pivot c = search needs
-
-slice-read-pivot : tie.Need-slice-read-pivot
-slice-read-pivot c = search needs
-
-mul-value : tie.Need-mul-value
-mul-value c = search needs
-
-slice-read-value : tie.Need-slice-read-value
-slice-read-value c = search needs
-
-abs-requires : tie.Need-abs-requires
-abs-requires c κs = search needs
-
-abs-requires-2 : tie.Need-abs-requires-2
-abs-requires-2 c κs = search needs
-
-elementary-requires : tie.Need-elementary-requires
-elementary-requires c κs = search needs
-
-mul-u : tie.Need-mul-u
-mul-u c = search needs
-
-slice-write-u : tie.Need-slice-write-u
-slice-write-u c = search needs
-
-mul-y : tie.Need-mul-y
-mul-y c = search needs
-
-slice-write-y : tie.Need-slice-write-y
-slice-write-y c = search needs
-
-add-transform-slices : tie.Need-add-transform-slices
-add-transform-slices c = search needs
-
-add-transform-slices-2 : tie.Need-add-transform-slices-2
-add-transform-slices-2 c = search needs
-
-add-transform-slices-3 : tie.Need-add-transform-slices-3
-add-transform-slices-3 c = search needs
-
-sub-transform-slices : tie.Need-sub-transform-slices
-sub-transform-slices c = search needs
-
 transform-slices-requires : tie.Need-transform-slices-requires
 unfolding tested
 transform-slices-requires c κs =
@@ -171,21 +126,21 @@ forward-row-spec =
     tie.close
     (tie.spec
     u-index-requires
-    mul-pivot
-    slice-read-pivot
-    mul-value
-    slice-read-value
-    abs-requires
-    abs-requires-2
-    elementary-requires
-    mul-u
-    slice-write-u
-    mul-y
-    slice-write-y
-    add-transform-slices
-    add-transform-slices-2
-    add-transform-slices-3
-    sub-transform-slices
+    (λ c. search needs)
+    (λ c. search needs)
+    (λ c. search needs)
+    (λ c. search needs)
+    (λ c κs. search needs)
+    (λ c κs. search needs)
+    (λ c κs. search needs)
+    (λ c. search needs)
+    (λ c. search needs)
+    (λ c. search needs)
+    (λ c. search needs)
+    (λ c. search needs)
+    (λ c. search needs)
+    (λ c. search needs)
+    (λ c. search needs)
     transform-slices-requires
     mul-transform-rows
     mul-transform-rows-2

@@ -7,13 +7,10 @@ use Rattle.host_numbers.proofs.outside.Tie as tie
 returns : tie.Need-returns
 returns c = outside-negative (c .before .args .index) (c .before .fits .index) (c .before .args .n) (c .if1 .taken)
 
-size-requires : tie.Need-size-requires
-size-requires c κs = search needs
-
 returns-2 : tie.Need-returns-2
 returns-2 c =
     let start = c .before .before in
     outside-whole (start .args .index) (start .fits .index) (start .args .n) (c .before .if1 .left) (c .size .ensures .0)
 
 pub outside-spec : {M : Type 1} → statement M
-outside-spec = tie.close (tie.spec returns size-requires returns-2)
+outside-spec = tie.close (tie.spec returns (λ c κs. search needs) returns-2)

@@ -7,9 +7,6 @@ use Rattle.host_numbers.specs.Numbers.{sizeOf}
 use Rattle.host_numbers.proofs.stride.Statement.{statement}
 use Rattle.host_numbers.proofs.stride.Tie as tie
 
-size-requires : tie.Need-size-requires
-size-requires c κs = search needs
-
 returns : tie.Need-returns
 returns c = let e = c .before .size .ensures .0 ∙ ap sizeOf (toZ-ofZ (c .before .before .fits .maxmod)) in (omega arith, omega arith)
 
@@ -17,4 +14,4 @@ returns-2 : tie.Need-returns-2
 returns-2 c = let e = c .before .size .ensures .0 ∙ ap sizeOf (toZ-ofZ (c .before .before .fits .maxmod)) in (omega arith, c .before .size .ensures .1)
 
 pub stride-spec : {M : Type 1} → statement M
-stride-spec = tie.close (tie.spec size-requires returns returns-2)
+stride-spec = tie.close (tie.spec (λ c κs. search needs) returns returns-2)

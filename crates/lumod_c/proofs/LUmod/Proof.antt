@@ -29,15 +29,6 @@ record Way : Type 0 where
 way : tie.Else2 → Way
 way c = search
 
-size-requires : tie.Need-size-requires
-size-requires c κs = search needs
-
-size-requires-2 : tie.Need-size-requires-2
-size-requires-2 c κs = search needs
-
-passed-over-requires : tie.Need-passed-over-requires
-passed-over-requires c κs = search needs
-
 returns : tie.Need-returns
 returns c =
     let s : tie.After-size2 = search in
@@ -49,12 +40,6 @@ returns c =
     outcome-11 _
     (updateLacksRoom (sizeOf (start .args .n)) (strideOf (start .args .maxmod)) (length (now (start .args .l))) (length (now (start .args .u))) (length (now (start .args .y))) (length (now (start .args .z))) (length (now (start .args .w))))
     p (untouched N)
-
-stride-requires : tie.Need-stride-requires
-stride-requires c κs = search needs
-
-update-lacks-room-requires : tie.Need-update-lacks-room-requires
-update-lacks-room-requires c κs = search needs
 
 returns-2 : tie.Need-returns-2
 returns-2 c =
@@ -71,12 +56,6 @@ returns-2 c =
     outcome-12 _ _ p
     ((λ t. updateLacksRoom (sym e t) (sym f t) (length (now (start .args .l))) (length (now (start .args .u))) (length (now (start .args .y))) (length (now (start .args .z))) (length (now (start .args .w)))) ∙ sym (c .before .update-lacks-room .ensures) ∙ c .if2 .taken)
     (untouched N)
-
-size-requires-3 : tie.Need-size-requires-3
-size-requires-3 c κs = search needs
-
-size-requires-4 : tie.Need-size-requires-4
-size-requires-4 c κs = search needs
 
 perform-requires : tie.Need-perform-requires
 perform-requires c κs =
@@ -97,21 +76,6 @@ perform-requires c κs =
       record { stride = omega arith; dimension = s .0; l-long = s .1; u-long = s .2 },
       (s .3, (s .4, (s .5, (h .dimension, (h .greatest, (h .least, (λ q. omega (arith, r, h .row q), (λ q. omega (arith, k, h .column q), (λ q. omega (arith, k, h .column-4 q)))))))))),
     )
-
-same-length : tie.Need-same-length
-same-length c = search needs
-
-same-length-2 : tie.Need-same-length-2
-same-length-2 c = search needs
-
-same-length-3 : tie.Need-same-length-3
-same-length-3 c = search needs
-
-same-length-4 : tie.Need-same-length-4
-same-length-4 c = search needs
-
-same-length-5 : tie.Need-same-length-5
-same-length-5 c = search needs
 
 returns-3 : tie.Need-returns-3
 unfolding way
@@ -136,19 +100,19 @@ pub LUmod-spec : {M : Type 1} → statement M
 LUmod-spec =
     tie.close
     (tie.spec
-    size-requires
-    size-requires-2
-    passed-over-requires
+    (λ c κs. search needs)
+    (λ c κs. search needs)
+    (λ c κs. search needs)
     returns
-    stride-requires
-    update-lacks-room-requires
+    (λ c κs. search needs)
+    (λ c κs. search needs)
     returns-2
-    size-requires-3
-    size-requires-4
+    (λ c κs. search needs)
+    (λ c κs. search needs)
     perform-requires
-    same-length
-    same-length-2
-    same-length-3
-    same-length-4
-    same-length-5
+    (λ c. search needs)
+    (λ c. search needs)
+    (λ c. search needs)
+    (λ c. search needs)
+    (λ c. search needs)
     returns-3)

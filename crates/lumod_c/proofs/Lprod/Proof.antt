@@ -18,21 +18,12 @@ use Rattle.lumod_c.proofs.Lprod.Tie as tie
 abbrev N : NumberForm
 N = ieee binary64
 
-size-requires : tie.Need-size-requires
-size-requires c κs = search needs
-
 returns : tie.Need-returns
 returns c =
     let start = c .before .before .before .before .before in
     let a = start .args in
     let e : c .before .size .result ≡ sizeOf (start .args .n) = c .before .size .ensures .0 ∙ ap sizeOf (toZ-ofZ (start .fits .n)) in
     outcome-11 _ (productLacksRoom (sizeOf (a .n)) (strideOf (a .maxmod)) (length (now (a .l))) (length (now (a .y))) (length (now (a .z)))) (eq-eqb _ 0 (sym e ∙ c .if1 .taken)) refl
-
-stride-requires : tie.Need-stride-requires
-stride-requires c κs = search needs
-
-product-lacks-room-requires : tie.Need-product-lacks-room-requires
-product-lacks-room-requires c κs = search needs
 
 returns-2 : tie.Need-returns-2
 returns-2 c =
@@ -46,9 +37,6 @@ returns-2 c =
     ((λ t. productLacksRoom (sym e t) (sym f t) (length (now (start .args .l))) (length (now (start .args .y))) (length (now (start .args .z)))) ∙ sym (c .before .product-lacks-room .ensures) ∙ c .if2 .taken)
     refl
 
-size-requires-2 : tie.Need-size-requires-2
-size-requires-2 c κs = search needs
-
 l-product-requires : tie.Need-l-product-requires
 l-product-requires c κs =
     let r = product-room _ _ _ _ _ (sym (c .before .before .before .before .product-lacks-room .ensures) ∙ c .before .before .before .if2 .left) in
@@ -60,9 +48,6 @@ l-product-transposed-requires c κs =
     let r = product-room _ _ _ _ _ (sym (c .before .before .before .before .product-lacks-room .ensures) ∙ c .before .before .before .if2 .left) in
     let p = c .before .before .before .before .before .stride .ensures .1 in
     omega arith
-
-same-length : tie.Need-same-length
-same-length c = search needs
 
 returns-3 : tie.Need-returns-3
 returns-3 c =
@@ -81,9 +66,6 @@ returns-3 c =
     outcome-0 _ _ (ne-eqb _ 0 (λ h. else1 .if1 .left (e ∙ h)))
     ((λ t. productLacksRoom (sym e t) (sym f t) (length (now (start .args .l))) (length (now (start .args .y))) (length (now (start .args .z)))) ∙ sym (r .product-lacks-room .ensures) ∙ else2 .if2 .left)
     (rw (← e, ← f, ← g, plain-product N _ _ _ _ _ (then3 .if3 .taken)) (p .l-product .ensures))
-
-same-length-2 : tie.Need-same-length-2
-same-length-2 c = search needs
 
 returns-4 : tie.Need-returns-4
 returns-4 c =
@@ -107,15 +89,15 @@ pub Lprod-spec : {M : Type 1} → statement M
 Lprod-spec =
     tie.close
     (tie.spec
-    size-requires
+    (λ c κs. search needs)
     returns
-    stride-requires
-    product-lacks-room-requires
+    (λ c κs. search needs)
+    (λ c κs. search needs)
     returns-2
-    size-requires-2
+    (λ c κs. search needs)
     l-product-requires
     l-product-transposed-requires
-    same-length
+    (λ c. search needs)
     returns-3
-    same-length-2
+    (λ c. search needs)
     returns-4)

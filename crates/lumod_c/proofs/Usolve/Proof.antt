@@ -18,21 +18,12 @@ use Rattle.lumod_c.proofs.Usolve.Tie as tie
 abbrev N : NumberForm
 N = ieee binary64
 
-size-requires : tie.Need-size-requires
-size-requires c κs = search needs
-
 returns : tie.Need-returns
 returns c =
     let start = c .before .before .before .before in
     let a = start .args in
     let e : c .before .size .result ≡ sizeOf (start .args .n) = c .before .size .ensures .0 ∙ ap sizeOf (toZ-ofZ (start .fits .n)) in
     outcome-11 _ (solveLacksRoom (sizeOf (a .n)) (strideOf (a .maxmod)) (length (now (a .u))) (length (now (a .y)))) (eq-eqb _ 0 (sym e ∙ c .if1 .taken)) refl
-
-stride-requires : tie.Need-stride-requires
-stride-requires c κs = search needs
-
-solve-lacks-room-requires : tie.Need-solve-lacks-room-requires
-solve-lacks-room-requires c κs = search needs
 
 returns-2 : tie.Need-returns-2
 returns-2 c =
@@ -45,9 +36,6 @@ returns-2 c =
     outcome-12 _ _ (ne-eqb _ 0 (λ h. else1 .if1 .left (e ∙ h)))
     ((λ t. solveLacksRoom (sym e t) (sym f t) (length (now (start .args .u))) (length (now (start .args .y)))) ∙ sym (c .before .solve-lacks-room .ensures) ∙ c .if2 .taken) refl
 
-size-requires-2 : tie.Need-size-requires-2
-size-requires-2 c κs = search needs
-
 back-substitute-requires : tie.Need-back-substitute-requires
 back-substitute-requires c κs =
     let r = solve-room _ _ _ _ (sym (c .before .before .before .before .solve-lacks-room .ensures) ∙ c .before .before .before .if2 .left) in
@@ -59,9 +47,6 @@ forward-substitute-requires c κs =
     let r = solve-room _ _ _ _ (sym (c .before .before .before .before .solve-lacks-room .ensures) ∙ c .before .before .before .if2 .left) in
     let p = c .before .before .before .before .before .stride .ensures .1 in
     omega arith
-
-same-length : tie.Need-same-length
-same-length c = search needs
 
 returns-3 : tie.Need-returns-3
 returns-3 c =
@@ -80,9 +65,6 @@ returns-3 c =
     outcome-0 _ _ (ne-eqb _ 0 (λ h. else1 .if1 .left (e ∙ h)))
     ((λ t. solveLacksRoom (sym e t) (sym f t) (length (now (start .args .u))) (length (now (start .args .y)))) ∙ sym (s .solve-lacks-room .ensures) ∙ else2 .if2 .left)
     (rw (← e, ← f, ← g, plain-solve N _ _ _ _ _ (then3 .if3 .taken)) (b .back-substitute .ensures))
-
-same-length-2 : tie.Need-same-length-2
-same-length-2 c = search needs
 
 returns-4 : tie.Need-returns-4
 returns-4 c =
@@ -106,15 +88,15 @@ pub Usolve-spec : {M : Type 1} → statement M
 Usolve-spec =
     tie.close
     (tie.spec
-    size-requires
+    (λ c κs. search needs)
     returns
-    stride-requires
-    solve-lacks-room-requires
+    (λ c κs. search needs)
+    (λ c κs. search needs)
     returns-2
-    size-requires-2
+    (λ c κs. search needs)
     back-substitute-requires
     forward-substitute-requires
-    same-length
+    (λ c. search needs)
     returns-3
-    same-length-2
+    (λ c. search needs)
     returns-4)

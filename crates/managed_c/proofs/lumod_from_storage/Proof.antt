@@ -9,18 +9,6 @@ use Rattle.managed_c.proofs.Adoption.{adoption-number}
 use Rattle.managed_c.proofs.lumod_from_storage.Statement.{statement}
 use Rattle.managed_c.proofs.lumod_from_storage.Tie as tie
 
-from-storage-requires : tie.Need-from-storage-requires
-from-storage-requires c κs = search needs
-
-enum-told : tie.Need-enum-told
-enum-told c = search needs
-
-enum-known-adoption : tie.Need-enum-known-adoption
-enum-known-adoption c = search needs
-
-refusal-number-requires : tie.Need-refusal-number-requires
-refusal-number-requires c κs = search needs
-
 returns : tie.Need-returns
 returns c =
     let f : tie.After-from-storage = search in
@@ -39,9 +27,9 @@ pub lumod-from-storage-spec : {M : Type 1} → statement M
 lumod-from-storage-spec =
     tie.close
     (tie.spec
-    from-storage-requires
-    enum-told
-    enum-known-adoption
-    refusal-number-requires
+    (λ c κs. search needs)
+    (λ c. search needs)
+    (λ c. search needs)
+    (λ c κs. search needs)
     returns
     returns-2)

@@ -8,21 +8,6 @@ use Rattle.managed_c.specs.Returned.{ReadyReturned}
 use Rattle.managed_c.proofs.lumod_ready.Statement.{statement}
 use Rattle.managed_c.proofs.lumod_ready.Tie as tie
 
-ready-requires : tie.Need-ready-requires
-ready-requires c κs = search needs
-
-enum-told : tie.Need-enum-told
-enum-told c = search needs
-
-enum-told-2 : tie.Need-enum-told-2
-enum-told-2 c = search needs
-
-enum-known-readiness : tie.Need-enum-known-readiness
-enum-known-readiness c = search needs
-
-refusal-number-requires : tie.Need-refusal-number-requires
-refusal-number-requires c κs = search needs
-
 returns : tie.Need-returns
 returns c =
     let r : tie.After-ready = search in
@@ -48,11 +33,11 @@ pub lumod-ready-spec : {M : Type 1} → statement M
 lumod-ready-spec =
     tie.close
     (tie.spec
-    ready-requires
-    enum-told
-    enum-told-2
-    enum-known-readiness
-    refusal-number-requires
+    (λ c κs. search needs)
+    (λ c. search needs)
+    (λ c. search needs)
+    (λ c. search needs)
+    (λ c κs. search needs)
     returns
     returns-2
     returns-3)

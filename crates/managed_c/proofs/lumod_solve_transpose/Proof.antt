@@ -11,21 +11,6 @@ use Rattle.answers.proofs.Returns.{returned-solved, transpose-stays}
 use Rattle.managed_c.proofs.lumod_solve_transpose.Statement.{statement}
 use Rattle.managed_c.proofs.lumod_solve_transpose.Tie as tie
 
-solve-transpose-in-place-requires : tie.Need-solve-transpose-in-place-requires
-solve-transpose-in-place-requires c κs = search needs
-
-named-index-requires : tie.Need-named-index-requires
-named-index-requires c κs = search needs
-
-answer-number-requires : tie.Need-answer-number-requires
-answer-number-requires c κs = search needs
-
-same-length : tie.Need-same-length
-same-length c = search needs
-
-same-length-2 : tie.Need-same-length-2
-same-length-2 c = search needs
-
 returns : tie.Need-returns
 returns c =
     let t : tie.After-solve-transpose-in-place = search in
@@ -38,9 +23,9 @@ pub lumod-solve-transpose-spec : {M : Type 1} → statement M
 lumod-solve-transpose-spec =
     tie.close
     (tie.spec
-    solve-transpose-in-place-requires
-    named-index-requires
-    answer-number-requires
-    same-length
-    same-length-2
+    (λ c κs. search needs)
+    (λ c κs. search needs)
+    (λ c κs. search needs)
+    (λ c. search needs)
+    (λ c. search needs)
     returns)

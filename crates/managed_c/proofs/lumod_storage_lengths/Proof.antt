@@ -7,15 +7,6 @@ use Rattle.managed_c.specs.Returned.{LengthsReturned}
 use Rattle.managed_c.proofs.lumod_storage_lengths.Statement.{statement}
 use Rattle.managed_c.proofs.lumod_storage_lengths.Tie as tie
 
-storage-lengths-requires : tie.Need-storage-lengths-requires
-storage-lengths-requires c κs = search needs
-
-enum-known-required : tie.Need-enum-known-required
-enum-known-required c = search needs
-
-enum-told : tie.Need-enum-told
-enum-told c = search needs
-
 returns : tie.Need-returns
 returns c =
     let a = c .before .before .before .args in
@@ -29,4 +20,4 @@ returns-2 c =
 
 pub lumod-storage-lengths-spec : {M : Type 1} → statement M
 lumod-storage-lengths-spec =
-    tie.close (tie.spec storage-lengths-requires enum-known-required enum-told returns returns-2)
+    tie.close (tie.spec (λ c κs. search needs) (λ c. search needs) (λ c. search needs) returns returns-2)

@@ -19,12 +19,6 @@ use Rattle.managed_updates.proofs.push.Tie as tie
 abbrev N : NumberForm
 N = ieee binary64
 
-test-push-requires : tie.Need-test-push-requires
-test-push-requires c κs = search needs
-
-enum-known-test : tie.Need-enum-known-test
-enum-known-test c = search needs
-
 returns : tie.Need-returns
 returns c counter =
     let t : tie.After-test-push = search in
@@ -33,9 +27,6 @@ returns c counter =
     let s = instance (stateValue (a .n) (a .capacity) counter) (now (a .l)) (now (a .u)) (now (a .y)) (now (a .z)) (now (a .w)) in
     outcome-refused N (managedEpsilon binary64) (managedTiny binary64) (calls.push (now (a .row)) (now (a .column)) (a .diagonal)) s
     (push-tested N s (now (a .row)) (now (a .column)) (a .diagonal) ∙ refused-some (t .test-push .ensures) _ (c .before .test .given .1))
-
-enum-told : tie.Need-enum-told
-enum-told c = search needs
 
 push-requires : tie.Need-push-requires
 push-requires c κs =
@@ -50,18 +41,6 @@ add-t18 c =
     let t : tie.After-test-push = search in
     let r = push-passed _ _ _ _ _ (passed-none (t .test-push .ensures) (e .enum-told .given .1)) in
     omega (arith, r .1, r .0 .storage .capacity)
-
-same-length : tie.Need-same-length
-same-length c = search needs
-
-same-length-2 : tie.Need-same-length-2
-same-length-2 c = search needs
-
-same-length-3 : tie.Need-same-length-3
-same-length-3 c = search needs
-
-same-length-4 : tie.Need-same-length-4
-same-length-4 c = search needs
 
 returns-2 : tie.Need-returns-2
 unfolding accepted
@@ -81,14 +60,14 @@ pub push-spec : {M : Type 1} → statement M
 push-spec =
     tie.close
     (tie.spec
-    test-push-requires
-    enum-known-test
+    (λ c κs. search needs)
+    (λ c. search needs)
     returns
-    enum-told
+    (λ c. search needs)
     push-requires
     add-t18
-    same-length
-    same-length-2
-    same-length-3
-    same-length-4
+    (λ c. search needs)
+    (λ c. search needs)
+    (λ c. search needs)
+    (λ c. search needs)
     returns-2)

@@ -19,12 +19,6 @@ use Rattle.managed_updates.proofs.remove.Tie as tie
 abbrev N : NumberForm
 N = ieee binary64
 
-test-remove-requires : tie.Need-test-remove-requires
-test-remove-requires c κs = search needs
-
-enum-known-test : tie.Need-enum-known-test
-enum-known-test c = search needs
-
 returns : tie.Need-returns
 returns c counter =
     let t : tie.After-test-remove = search in
@@ -33,12 +27,6 @@ returns c counter =
     let s = instance (stateValue (a .n) (a .capacity) counter) (now (a .l)) (now (a .u)) (now (a .y)) (now (a .z)) (now (a .w)) in
     outcome-refused N (managedEpsilon binary64) (managedTiny binary64) (calls.remove (a .row) (a .column)) s
     (remove-tested N s (a .row) (a .column) ∙ refused-some (t .test-remove .ensures) _ (c .before .test .given .1))
-
-enum-told : tie.Need-enum-told
-enum-told c = search needs
-
-managed-requires : tie.Need-managed-requires
-managed-requires c κs = search needs
 
 remove-requires : tie.Need-remove-requires
 remove-requires c κs =
@@ -53,21 +41,6 @@ sub-t14 c =
     let t : tie.After-test-remove = search in
     let r = remove-passed _ _ _ _ _ (passed-none (t .test-remove .ensures) (e .enum-told .given .1)) in
     omega (arith, r .1)
-
-same-length : tie.Need-same-length
-same-length c = search needs
-
-same-length-2 : tie.Need-same-length-2
-same-length-2 c = search needs
-
-same-length-3 : tie.Need-same-length-3
-same-length-3 c = search needs
-
-same-length-4 : tie.Need-same-length-4
-same-length-4 c = search needs
-
-same-length-5 : tie.Need-same-length-5
-same-length-5 c = search needs
 
 returns-2 : tie.Need-returns-2
 unfolding accepted
@@ -88,16 +61,16 @@ pub remove-spec : {M : Type 1} → statement M
 remove-spec =
     tie.close
     (tie.spec
-    test-remove-requires
-    enum-known-test
+    (λ c κs. search needs)
+    (λ c. search needs)
     returns
-    enum-told
-    managed-requires
+    (λ c. search needs)
+    (λ c κs. search needs)
     remove-requires
     sub-t14
-    same-length
-    same-length-2
-    same-length-3
-    same-length-4
-    same-length-5
+    (λ c. search needs)
+    (λ c. search needs)
+    (λ c. search needs)
+    (λ c. search needs)
+    (λ c. search needs)
     returns-2)

@@ -19,12 +19,6 @@ use Rattle.managed_updates.proofs.replace_row.Tie as tie
 abbrev N : NumberForm
 N = ieee binary64
 
-test-replacement-requires : tie.Need-test-replacement-requires
-test-replacement-requires c κs = search needs
-
-enum-known-test : tie.Need-enum-known-test
-enum-known-test c = search needs
-
 returns : tie.Need-returns
 returns c counter =
     let t : tie.After-test-replacement = search in
@@ -34,30 +28,12 @@ returns c counter =
     outcome-refused N (managedEpsilon binary64) (managedTiny binary64) (calls.replaceRow (a .row) (now (a .values))) s
     (row-tested N s (a .row) (now (a .values)) ∙ refused-some (t .test-replacement .ensures) _ (c .before .test .given .1))
 
-enum-told : tie.Need-enum-told
-enum-told c = search needs
-
 replace-row-requires : tie.Need-replace-row-requires
 replace-row-requires c κs =
     let e : tie.After-enum-told = search in
     let t : tie.After-test-replacement = search in
     let r = replacement-passed _ _ _ _ _ _ (passed-none (t .test-replacement .ensures) (e .enum-told .given .1)) in
     (room N _ (r .0 .storage .dimension) (r .0 .storage), (r .0 .y, (r .0 .z, (r .0 .w, (omega (arith, r .2), omega (arith, r .1))))))
-
-same-length : tie.Need-same-length
-same-length c = search needs
-
-same-length-2 : tie.Need-same-length-2
-same-length-2 c = search needs
-
-same-length-3 : tie.Need-same-length-3
-same-length-3 c = search needs
-
-same-length-4 : tie.Need-same-length-4
-same-length-4 c = search needs
-
-same-length-5 : tie.Need-same-length-5
-same-length-5 c = search needs
 
 returns-2 : tie.Need-returns-2
 unfolding accepted
@@ -77,14 +53,14 @@ pub replace-row-spec : {M : Type 1} → statement M
 replace-row-spec =
     tie.close
     (tie.spec
-    test-replacement-requires
-    enum-known-test
+    (λ c κs. search needs)
+    (λ c. search needs)
     returns
-    enum-told
+    (λ c. search needs)
     replace-row-requires
-    same-length
-    same-length-2
-    same-length-3
-    same-length-4
-    same-length-5
+    (λ c. search needs)
+    (λ c. search needs)
+    (λ c. search needs)
+    (λ c. search needs)
+    (λ c. search needs)
     returns-2)

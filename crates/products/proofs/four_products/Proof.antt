@@ -31,41 +31,14 @@ add-d c = omega (arith, four-rows-fit N (c .before .before .before .args .i) (c 
 four-dots-requires : tie.Need-four-dots-requires
 four-dots-requires c κs = let h = four-rows-fit N (c .before .before .before .args .i) (c .before .before .before .args .stride) (omega arith) in (omega arith, (omega arith, (omega arith, (omega arith, omega arith))))
 
-mul-output : tie.Need-mul-output
-mul-output c = search needs
-
-slice-write-output : tie.Need-slice-write-output
-slice-write-output c = search needs
-
-add-output : tie.Need-add-output
-add-output c = search needs
-
-mul-output-2 : tie.Need-mul-output-2
-mul-output-2 c = search needs
-
 slice-write-output-2 : tie.Need-slice-write-output-2
 slice-write-output-2 c = rw length-set (omega arith)
-
-add-output-2 : tie.Need-add-output-2
-add-output-2 c = search needs
-
-mul-output-3 : tie.Need-mul-output-3
-mul-output-3 c = search needs
 
 slice-write-output-3 : tie.Need-slice-write-output-3
 slice-write-output-3 c = rw (length-set, length-set) (omega arith)
 
-add-output-3 : tie.Need-add-output-3
-add-output-3 c = search needs
-
-mul-output-4 : tie.Need-mul-output-4
-mul-output-4 c = search needs
-
 slice-write-output-4 : tie.Need-slice-write-output-4
 slice-write-output-4 c = rw (length-set, length-set, length-set) (omega arith)
-
-same-length : tie.Need-same-length
-same-length c = search needs
 
 returns : tie.Need-returns
 returns c =
@@ -87,16 +60,16 @@ four-products-spec =
     add-c
     add-d
     four-dots-requires
-    mul-output
-    slice-write-output
-    add-output
-    mul-output-2
+    (λ c. search needs)
+    (λ c. search needs)
+    (λ c. search needs)
+    (λ c. search needs)
     slice-write-output-2
-    add-output-2
-    mul-output-3
+    (λ c. search needs)
+    (λ c. search needs)
     slice-write-output-3
-    add-output-3
-    mul-output-4
+    (λ c. search needs)
+    (λ c. search needs)
     slice-write-output-4
-    same-length
+    (λ c. search needs)
     returns)

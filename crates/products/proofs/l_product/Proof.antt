@@ -13,12 +13,6 @@ use Rattle.products.proofs.l_product.Tie as tie
 abbrev N : NumberForm
 N = ieee binary64
 
-l-product-from-requires : tie.Need-l-product-from-requires
-l-product-from-requires c κs = search needs
-
-same-length : tie.Need-same-length
-same-length c = search needs
-
 returns : tie.Need-returns
 returns c =
     let l : tie.After-l-product-from = search in
@@ -27,4 +21,4 @@ returns c =
     product-from-0 N (a .n) (product N (a .n)) (product-same N (a .n)) (viewL N (a .stride) (now (a .l))) (now (a .input)) (l .l-product-from .ensures)
 
 pub l-product-spec : {M : Type 1} → statement M
-l-product-spec = tie.close (tie.spec l-product-from-requires same-length returns)
+l-product-spec = tie.close (tie.spec (λ c κs. search needs) (λ c. search needs) returns)

@@ -27,9 +27,6 @@ Inv-loop n stride l input start output₀ done i₀ output i = (i ≤ n) × Writ
 abbrev μ-loop : tie.MeasureT-loop
 μ-loop n stride l input start output₀ done i₀ output i = n - i
 
-products-by-fours-requires : tie.Need-products-by-fours-requires Inv-loop μ-loop
-products-by-fours-requires c κs = search needs
-
 loop-holds : tie.Need-loop-holds Inv-loop μ-loop
 loop-holds c = let done = c .before .before .products-by-fours .ensures in (done .0, record { value = done .1 .value; kept = kept-all N })
 
@@ -77,7 +74,7 @@ l-product-from-spec =
     (tie.spec
     Inv-loop
     μ-loop
-    products-by-fours-requires
+    (λ c κs. search needs)
     loop-holds
     mul-dot
     dot-requires

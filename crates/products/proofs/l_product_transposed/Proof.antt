@@ -13,12 +13,6 @@ use Rattle.products.proofs.l_product_transposed.Tie as tie
 abbrev N : NumberForm
 N = ieee binary64
 
-l-product-transposed-from-requires : tie.Need-l-product-transposed-from-requires
-l-product-transposed-from-requires c κs = search needs
-
-same-length : tie.Need-same-length
-same-length c = search needs
-
 returns : tie.Need-returns
 returns c =
     let l : tie.After-l-product-transposed-from = search in
@@ -28,4 +22,4 @@ returns c =
 
 pub l-product-transposed-spec : {M : Type 1} → statement M
 l-product-transposed-spec =
-    tie.close (tie.spec l-product-transposed-from-requires same-length returns)
+    tie.close (tie.spec (λ c κs. search needs) (λ c. search needs) returns)

@@ -16,12 +16,6 @@ use Rattle.readiness.proofs.ready.Tie as tie
 abbrev N : NumberForm
 N = ieee binary64
 
-test-storage-requires : tie.Need-test-storage-requires
-test-storage-requires c κs = search needs
-
-enum-known-test : tie.Need-enum-known-test
-enum-known-test c = search needs
-
 returns : tie.Need-returns
 returns c =
     let s : tie.After-test-storage = search in
@@ -29,20 +23,11 @@ returns c =
     let a = start .args in
     λ t. readyUnder ((sym (ap testOf (c .before .test .given .1)) ∙ s .test-storage .ensures) t) (diagonals N (viewU N (a .capacity) (now (a .u))) (a .n))
 
-enum-told : tie.Need-enum-told
-enum-told c = search needs
-
 test-diagonals-requires : tie.Need-test-diagonals-requires
 test-diagonals-requires c κs =
     let s : tie.After-test-storage = search in
     let p = storage-passed _ _ _ _ (passed-none (s .test-storage .ensures) (c .enum-told .given .1)) in
     (p .dimension, (p .capacity, p .U))
-
-enum-told-2 : tie.Need-enum-told-2
-enum-told-2 c = search needs
-
-enum-told-3 : tie.Need-enum-told-3
-enum-told-3 c = search needs
 
 returns-2 : tie.Need-returns-2
 returns-2 c =
@@ -62,12 +47,12 @@ pub ready-spec : {M : Type 1} → statement M
 ready-spec =
     tie.close
     (tie.spec
-    test-storage-requires
-    enum-known-test
+    (λ c κs. search needs)
+    (λ c. search needs)
     returns
-    enum-told
+    (λ c. search needs)
     test-diagonals-requires
-    enum-told-2
-    enum-told-3
+    (λ c. search needs)
+    (λ c. search needs)
     returns-2
     returns-3)

@@ -6,15 +6,6 @@ use Rattle.refusals.proofs.Chain.{refused-first, passed-none}
 use Rattle.refusals.proofs.test_lent.Statement.{statement}
 use Rattle.refusals.proofs.test_lent.Tie as tie
 
-test-storage-requires : tie.Need-test-storage-requires
-test-storage-requires c κs = search needs
-
-enum-told : tie.Need-enum-told
-enum-told c = search needs
-
-enum-told-2 : tie.Need-enum-told-2
-enum-told-2 c = search needs
-
 returns : tie.Need-returns
 returns c = refused-first (c .before .before .test-storage .ensures) _ _ (c .enum-told2 .given .1)
 
@@ -41,4 +32,4 @@ returns-4 c =
 pub test-lent-spec : {M : Type 1} → statement M
 test-lent-spec =
     tie.close
-    (tie.spec test-storage-requires enum-told enum-told-2 returns returns-2 returns-3 returns-4)
+    (tie.spec (λ c κs. search needs) (λ c. search needs) (λ c. search needs) returns returns-2 returns-3 returns-4)

@@ -6,15 +6,6 @@ use Rattle.managed.proofs.StorageTests.{size-overflow, short-L, short-U, sizes-
 use Rattle.refusals.proofs.test_sizes.Statement.{statement}
 use Rattle.refusals.proofs.test_sizes.Tie as tie
 
-storage-lengths-requires : tie.Need-storage-lengths-requires
-storage-lengths-requires c κs = search needs
-
-enum-known-required : tie.Need-enum-known-required
-enum-known-required c = search needs
-
-enum-told : tie.Need-enum-told
-enum-told c = search needs
-
 returns : tie.Need-returns
 returns c =
     let s : tie.After-storage-lengths = search in
@@ -45,4 +36,4 @@ returns-4 c =
 pub test-sizes-spec : {M : Type 1} → statement M
 test-sizes-spec =
     tie.close
-    (tie.spec storage-lengths-requires enum-known-required enum-told returns returns-2 returns-3 returns-4)
+    (tie.spec (λ c κs. search needs) (λ c. search needs) (λ c. search needs) returns returns-2 returns-3 returns-4)

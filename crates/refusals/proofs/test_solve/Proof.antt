@@ -11,15 +11,6 @@ use Rattle.refusals.proofs.Chain.{refused-first, passed-none}
 use Rattle.refusals.proofs.test_solve.Statement.{statement}
 use Rattle.refusals.proofs.test_solve.Tie as tie
 
-test-storage-requires : tie.Need-test-storage-requires
-test-storage-requires c κs = search needs
-
-enum-told : tie.Need-enum-told
-enum-told c = search needs
-
-enum-told-2 : tie.Need-enum-told-2
-enum-told-2 c = search needs
-
 returns : tie.Need-returns
 returns c = refused-first (refused-first (c .before .before .test-storage .ensures) _ none (c .enum-told2 .given .1)) _ _ (c .enum-told2 .given .1)
 
@@ -48,9 +39,9 @@ pub test-solve-spec : {M : Type 1} → statement M
 test-solve-spec =
     tie.close
     (tie.spec
-    test-storage-requires
-    enum-told
-    enum-told-2
+    (λ c κs. search needs)
+    (λ c. search needs)
+    (λ c. search needs)
     returns
     returns-2
     test-diagonals-requires

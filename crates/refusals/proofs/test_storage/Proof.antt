@@ -8,11 +8,8 @@ use Rattle.refusals.proofs.test_storage.Tie as tie
 returns : tie.Need-returns
 returns c = invalid-dimension _ _ _ _ (c .if1 .taken)
 
-test-sizes-requires : tie.Need-test-sizes-requires
-test-sizes-requires c κs = search needs
-
 returns-2 : tie.Need-returns-2
 returns-2 c = c .test-sizes .ensures ∙ sizes-decide _ _ _ _ (c .before .if1 .left)
 
 pub test-storage-spec : {M : Type 1} → statement M
-test-storage-spec = tie.close (tie.spec returns test-sizes-requires returns-2)
+test-storage-spec = tie.close (tie.spec returns (λ c κs. search needs) returns-2)

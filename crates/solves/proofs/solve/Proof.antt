@@ -13,18 +13,6 @@ use Rattle.solves.proofs.solve.Tie as tie
 abbrev N : NumberForm
 N = ieee binary64
 
-apply-l-requires : tie.Need-apply-l-requires
-apply-l-requires c κs = search needs
-
-back-substitute-requires : tie.Need-back-substitute-requires
-back-substitute-requires c κs = search needs
-
-same-length : tie.Need-same-length
-same-length c = search needs
-
-same-length-2 : tie.Need-same-length-2
-same-length-2 c = search needs
-
 returns : tie.Need-returns
 returns c =
     let b = let place : tie.After-back-substitute = search in place .back-substitute .ensures in
@@ -37,4 +25,4 @@ returns c =
 pub solve-spec : {M : Type 1} → statement M
 solve-spec =
     tie.close
-    (tie.spec apply-l-requires back-substitute-requires same-length same-length-2 returns)
+    (tie.spec (λ c κs. search needs) (λ c κs. search needs) (λ c. search needs) (λ c. search needs) returns)

@@ -12,18 +12,6 @@ use Rattle.solves.proofs.solve_transpose.Tie as tie
 abbrev N : NumberForm
 N = ieee binary64
 
-forward-substitute-requires : tie.Need-forward-substitute-requires
-forward-substitute-requires c κs = search needs
-
-apply-l-transposed-requires : tie.Need-apply-l-transposed-requires
-apply-l-transposed-requires c κs = search needs
-
-same-length : tie.Need-same-length
-same-length c = search needs
-
-same-length-2 : tie.Need-same-length-2
-same-length-2 c = search needs
-
 returns : tie.Need-returns
 returns c =
     let l : tie.After-apply-l-transposed = search in
@@ -38,8 +26,8 @@ pub solve-transpose-spec : {M : Type 1} → statement M
 solve-transpose-spec =
     tie.close
     (tie.spec
-    forward-substitute-requires
-    apply-l-transposed-requires
-    same-length
-    same-length-2
+    (λ c κs. search needs)
+    (λ c κs. search needs)
+    (λ c. search needs)
+    (λ c. search needs)
     returns)

@@ -19,33 +19,6 @@ record Way : Type 0 where
 way : tie.After-write-u-column → Way
 way c = search
 
-sub-last : tie.Need-sub-last
-sub-last c = search needs
-
-read-u-column-requires : tie.Need-read-u-column-requires
-read-u-column-requires c κs = search needs
-
-add-write-u-column : tie.Need-add-write-u-column
-add-write-u-column c = search needs
-
-write-u-column-requires : tie.Need-write-u-column-requires
-write-u-column-requires c κs = search needs
-
-restore-requires : tie.Need-restore-requires
-restore-requires c κs = search needs
-
-same-length : tie.Need-same-length
-same-length c = search needs
-
-same-length-2 : tie.Need-same-length-2
-same-length-2 c = search needs
-
-same-length-3 : tie.Need-same-length-3
-same-length-3 c = search needs
-
-same-length-4 : tie.Need-same-length-4
-same-length-4 c = search needs
-
 returns : tie.Need-returns
 unfolding way
 returns c =
@@ -66,14 +39,14 @@ pub drop-column-spec : {M : Type 1} → statement M
 drop-column-spec =
     tie.close
     (tie.spec
-    sub-last
-    read-u-column-requires
-    add-write-u-column
-    write-u-column-requires
-    restore-requires
-    same-length
-    same-length-2
-    same-length-3
-    same-length-4
+    (λ c. search needs)
+    (λ c κs. search needs)
+    (λ c. search needs)
+    (λ c κs. search needs)
+    (λ c κs. search needs)
+    (λ c. search needs)
+    (λ c. search needs)
+    (λ c. search needs)
+    (λ c. search needs)
     returns
     returns-2)

@@ -23,15 +23,6 @@ record Way : Type 0 where
 way : tie.After-backward → Way
 way c = search
 
-add-trim : tie.Need-add-trim
-add-trim c = search needs
-
-trim-requires : tie.Need-trim-requires
-trim-requires c κs = search needs
-
-add-backward : tie.Need-add-backward
-add-backward c = search needs
-
 backward-requires : tie.Need-backward-requires
 backward-requires c κs =
     let start : tie.Start = search in
@@ -59,12 +50,6 @@ slice-read-y c =
     let k = m .backward .ensures .0 .frame .w-kept .long in
     omega arith
 
-mul-y-2 : tie.Need-mul-y-2
-mul-y-2 c = search needs
-
-slice-write-y : tie.Need-slice-write-y
-slice-write-y c = search needs
-
 forward-requires : tie.Need-forward-requires
 unfolding way
 forward-requires c κs =
@@ -91,20 +76,11 @@ add-result c =
     let f = forward-counted-le N (a .numerics .epsilon) (a .numerics .tiny) _ _ _ _ (forward .ensures .1) in
     omega arith
 
-same-length : tie.Need-same-length
-same-length c = search needs
-
-same-length-2 : tie.Need-same-length-2
-same-length-2 c = search needs
-
 same-length-3 : tie.Need-same-length-3
 same-length-3 c =
     let forward = let t : tie.After-forward = search in t .forward in
     let backward = let t : tie.After-backward = search in t .backward in
     rw length-set at (forward .ensures .0 .frame .y-kept .long) ∙ backward .ensures .0 .frame .y-kept .long
-
-same-length-4 : tie.Need-same-length-4
-same-length-4 c = search needs
 
 returns : tie.Need-returns
 unfolding way
@@ -126,18 +102,18 @@ pub restore-spec : {M : Type 1} → statement M
 restore-spec =
     tie.close
     (tie.spec
-    add-trim
-    trim-requires
-    add-backward
+    (λ c. search needs)
+    (λ c κs. search needs)
+    (λ c. search needs)
     backward-requires
     mul-y
     slice-read-y
-    mul-y-2
-    slice-write-y
+    (λ c. search needs)
+    (λ c. search needs)
     forward-requires
     add-result
-    same-length
-    same-length-2
+    (λ c. search needs)
+    (λ c. search needs)
     same-length-3
-    same-length-4
+    (λ c. search needs)
     returns)

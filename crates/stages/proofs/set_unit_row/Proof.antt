@@ -19,18 +19,6 @@ fill-requires c κs =
     let start : tie.Start = search in
     let h = row-before (start .args .stride) (start .args .row) (start .args .stride) (omega arith) in omega arith
 
-l-index-requires : tie.Need-l-index-requires
-l-index-requires c κs = search needs
-
-mul-l : tie.Need-mul-l
-mul-l c = search needs
-
-slice-write-l : tie.Need-slice-write-l
-slice-write-l c = search needs
-
-same-length : tie.Need-same-length
-same-length c = search needs
-
 returns : tie.Need-returns
 returns c =
     let start : tie.Start = search in
@@ -44,4 +32,4 @@ returns c =
 pub set-unit-row-spec : {M : Type 1} → statement M
 set-unit-row-spec =
     tie.close
-    (tie.spec mul-fill fill-requires l-index-requires mul-l slice-write-l same-length returns)
+    (tie.spec mul-fill fill-requires (λ c κs. search needs) (λ c. search needs) (λ c. search needs) (λ c. search needs) returns)

@@ -8,9 +8,6 @@ use Rattle.storage.proofs.storage_lengths.Tie as tie
 returns : tie.Need-returns
 returns c = rw (overflows-from (c .before .args .capacity) (omega arith))
 
-add-l : tie.Need-add-l
-add-l c = search needs
-
 mul-l : tie.Need-mul-l
 mul-l c = record { fits = length-fits (c .before .args .capacity) (omega arith) }
 
@@ -18,4 +15,4 @@ returns-2 : tie.Need-returns-2
 returns-2 c = rw (not-overflows (c .before .args .capacity) (omega arith))
 
 pub storage-lengths-spec : {M : Type 1} → statement M
-storage-lengths-spec = tie.close (tie.spec returns add-l mul-l returns-2)
+storage-lengths-spec = tie.close (tie.spec returns (λ c. search needs) mul-l returns-2)

@@ -26,9 +26,6 @@ returns c =
 mul-result : tie.Need-mul-result
 mul-result c = omega (arith, fits (c .before))
 
-sub-result : tie.Need-sub-result
-sub-result c = search needs
-
 mul-result-2 : tie.Need-mul-result-2
 mul-result-2 c = omega (arith, fits (c .before), below (c .before))
 
@@ -38,12 +35,9 @@ sub-result-2 c = omega (arith, below (c .before))
 add-result : tie.Need-add-result
 add-result c = omega (arith, fits (c .before))
 
-sub-result-3 : tie.Need-sub-result-3
-sub-result-3 c = search needs
-
 returns-2 : tie.Need-returns-2
 unfolding uIndex
 returns-2 c = (refl, within (c .before))
 
 pub u-index-spec : {M : Type 1} → statement M
-u-index-spec = tie.close (tie.spec returns mul-result sub-result mul-result-2 sub-result-2 add-result sub-result-3 returns-2)
+u-index-spec = tie.close (tie.spec returns mul-result (λ c. search needs) mul-result-2 sub-result-2 add-result (λ c. search needs) returns-2)

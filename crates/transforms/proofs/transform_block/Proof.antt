@@ -41,9 +41,6 @@ mul-second c = omega arith
 slice-read-second : tie.Need-slice-read-second Inv-loop μ-loop
 slice-read-second c = omega arith
 
-apply-pair-requires : tie.Need-apply-pair-requires Inv-loop μ-loop
-apply-pair-requires c κs = search needs
-
 add-matrix : tie.Need-add-matrix Inv-loop μ-loop
 add-matrix c = omega arith
 
@@ -93,7 +90,7 @@ transform-block-spec =
     add-second
     mul-second
     slice-read-second
-    apply-pair-requires
+    (λ c κs. search needs)
     add-matrix
     mul-matrix
     slice-write-matrix

@@ -26,9 +26,6 @@ loop-holds c = (omega arith, rows-none N)
 sub-block-length : tie.Need-sub-block-length Inv-loop μ-loop
 sub-block-length c = omega arith
 
-block-length-requires : tie.Need-block-length-requires Inv-loop μ-loop
-block-length-requires c κs = search needs
-
 add-transform-block : tie.Need-add-transform-block Inv-loop μ-loop
 add-transform-block c = omega arith
 
@@ -72,7 +69,7 @@ transform-rows-spec =
     μ-loop
     loop-holds
     sub-block-length
-    block-length-requires
+    (λ c κs. search needs)
     add-transform-block
     add-transform-block-2
     transform-block-requires

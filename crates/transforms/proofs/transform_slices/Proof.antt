@@ -43,9 +43,6 @@ mul-second c = omega arith
 slice-read-second : tie.Need-slice-read-second Inv-loop μ-loop
 slice-read-second c = omega arith
 
-apply-pair-requires : tie.Need-apply-pair-requires Inv-loop μ-loop
-apply-pair-requires c κs = search needs
-
 add-xs : tie.Need-add-xs Inv-loop μ-loop
 add-xs c = omega arith
 
@@ -99,7 +96,7 @@ transform-slices-spec =
     add-second
     mul-second
     slice-read-second
-    apply-pair-requires
+    (λ c κs. search needs)
     add-xs
     mul-xs
     slice-write-xs

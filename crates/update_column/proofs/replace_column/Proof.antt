@@ -19,36 +19,6 @@ record Way : Type 0 where
 way : tie.After-write-u-column → Way
 way c = search
 
-l-product-requires : tie.Need-l-product-requires
-l-product-requires c κs = search needs
-
-add-write-u-column : tie.Need-add-write-u-column
-add-write-u-column c = search needs
-
-write-u-column-requires : tie.Need-write-u-column-requires
-write-u-column-requires c κs = search needs
-
-add-if1 : tie.Need-add-if1
-add-if1 c = search needs
-
-sub-restore : tie.Need-sub-restore
-sub-restore c = search needs
-
-restore-requires : tie.Need-restore-requires
-restore-requires c κs = search needs
-
-same-length : tie.Need-same-length
-same-length c = search needs
-
-same-length-2 : tie.Need-same-length-2
-same-length-2 c = search needs
-
-same-length-3 : tie.Need-same-length-3
-same-length-3 c = search needs
-
-same-length-4 : tie.Need-same-length-4
-same-length-4 c = search needs
-
 returns : tie.Need-returns
 unfolding way
 returns c =
@@ -59,15 +29,6 @@ returns c =
     let p = way t .start .pre in
     column-outcome N (a .numerics .epsilon) (a .numerics .tiny) (a .stride) (a .n) (a .column) (now (a .l)) (now (a .u)) (now (a .y))
     (now (a .z)) (now (a .w)) _ _ (omega arith) (omega arith) (way t .product .l-product .ensures) (t .write-u-column .ensures) (omega (arith, g)) (restore .ensures)
-
-same-length-5 : tie.Need-same-length-5
-same-length-5 c = search needs
-
-same-length-6 : tie.Need-same-length-6
-same-length-6 c = search needs
-
-same-length-7 : tie.Need-same-length-7
-same-length-7 c = search needs
 
 returns-2 : tie.Need-returns-2
 unfolding way
@@ -82,18 +43,18 @@ pub replace-column-spec : {M : Type 1} → statement M
 replace-column-spec =
     tie.close
     (tie.spec
-    l-product-requires
-    add-write-u-column
-    write-u-column-requires
-    add-if1
-    sub-restore
-    restore-requires
-    same-length
-    same-length-2
-    same-length-3
-    same-length-4
+    (λ c κs. search needs)
+    (λ c. search needs)
+    (λ c κs. search needs)
+    (λ c. search needs)
+    (λ c. search needs)
+    (λ c κs. search needs)
+    (λ c. search needs)
+    (λ c. search needs)
+    (λ c. search needs)
+    (λ c. search needs)
     returns
-    same-length-5
-    same-length-6
-    same-length-7
+    (λ c. search needs)
+    (λ c. search needs)
+    (λ c. search needs)
     returns-2)

@@ -24,21 +24,6 @@ record Way : Type 0 where
 way : tie.After-write-u-column → Way
 way c = search
 
-sub-last : tie.Need-sub-last
-sub-last c = search needs
-
-l-product-requires : tie.Need-l-product-requires
-l-product-requires c κs = search needs
-
-clear-l-column-requires : tie.Need-clear-l-column-requires
-clear-l-column-requires c κs = search needs
-
-set-unit-row-requires : tie.Need-set-unit-row-requires
-set-unit-row-requires c κs = search needs
-
-write-u-column-requires : tie.Need-write-u-column-requires
-write-u-column-requires c κs = search needs
-
 u-index-requires : tie.Need-u-index-requires
 unfolding way
 u-index-requires c κs =
@@ -55,9 +40,6 @@ mul-u c =
     let g = way t .start .good in
     omega arith
 
-slice-write-u : tie.Need-slice-write-u
-slice-write-u c = search needs
-
 forward-requires : tie.Need-forward-requires
 unfolding way
 forward-requires c κs =
@@ -69,20 +51,11 @@ forward-requires c κs =
       (omega arith, (omega arith, (omega arith, (omega arith, omega arith)))),
     )
 
-same-length : tie.Need-same-length
-same-length c = search needs
-
 same-length-2 : tie.Need-same-length-2
 same-length-2 c =
     let forward = let t : tie.After-forward = search in t .forward in
     let write-u-column = let t : tie.After-write-u-column = search in t .write-u-column in
     rw length-set at (forward .ensures .0 .frame .u-kept .long) ∙ write-u-column .ensures .kept .long
-
-same-length-3 : tie.Need-same-length-3
-same-length-3 c = search needs
-
-same-length-4 : tie.Need-same-length-4
-same-length-4 c = search needs
 
 returns : tie.Need-returns
 unfolding way
@@ -102,17 +75,17 @@ pub push-spec : {M : Type 1} → statement M
 push-spec =
     tie.close
     (tie.spec
-    sub-last
-    l-product-requires
-    clear-l-column-requires
-    set-unit-row-requires
-    write-u-column-requires
+    (λ c. search needs)
+    (λ c κs. search needs)
+    (λ c κs. search needs)
+    (λ c κs. search needs)
+    (λ c κs. search needs)
     u-index-requires
     mul-u
-    slice-write-u
+    (λ c. search needs)
     forward-requires
-    same-length
+    (λ c. search needs)
     same-length-2
-    same-length-3
-    same-length-4
+    (λ c. search needs)
+    (λ c. search needs)
     returns)

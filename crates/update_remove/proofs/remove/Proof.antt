@@ -22,15 +22,6 @@ record Way : Type 0 where
 way : tie.After-read-l-column → Way
 way c = search
 
-drop-column-requires : tie.Need-drop-column-requires
-drop-column-requires c κs = search needs
-
-sub-last : tie.Need-sub-last
-sub-last c = search needs
-
-read-l-column-requires : tie.Need-read-l-column-requires
-read-l-column-requires c κs = search needs
-
 copy-l-column-requires : tie.Need-copy-l-column-requires
 unfolding way
 copy-l-column-requires c κs =
@@ -60,21 +51,6 @@ add-result c =
     let b = backward-counted-le N (a .numerics .epsilon) (a .numerics .tiny) _ _ _ _ (backward .ensures .1) in
     omega arith
 
-same-length : tie.Need-same-length
-same-length c = search needs
-
-same-length-2 : tie.Need-same-length-2
-same-length-2 c = search needs
-
-same-length-3 : tie.Need-same-length-3
-same-length-3 c = search needs
-
-same-length-4 : tie.Need-same-length-4
-same-length-4 c = search needs
-
-same-length-5 : tie.Need-same-length-5
-same-length-5 c = search needs
-
 returns : tie.Need-returns
 unfolding way
 returns c =
@@ -91,15 +67,15 @@ pub remove-spec : {M : Type 1} → statement M
 remove-spec =
     tie.close
     (tie.spec
-    drop-column-requires
-    sub-last
-    read-l-column-requires
+    (λ c κs. search needs)
+    (λ c. search needs)
+    (λ c κs. search needs)
     copy-l-column-requires
     backward-requires
     add-result
-    same-length
-    same-length-2
-    same-length-3
-    same-length-4
-    same-length-5
+    (λ c. search needs)
+    (λ c. search needs)
+    (λ c. search needs)
+    (λ c. search needs)
+    (λ c. search needs)
     returns)

@@ -26,18 +26,6 @@ way c = search
 trimmed : tie.After-backward → tie.After-trim
 trimmed c = search
 
-read-l-column-requires : tie.Need-read-l-column-requires
-read-l-column-requires c κs = search needs
-
-clear-l-column-requires : tie.Need-clear-l-column-requires
-clear-l-column-requires c κs = search needs
-
-sub-trim : tie.Need-sub-trim
-sub-trim c = search needs
-
-trim-requires : tie.Need-trim-requires
-trim-requires c κs = search needs
-
 backward-requires : tie.Need-backward-requires
 unfolding way
 backward-requires c κs =
@@ -93,15 +81,6 @@ same-length c =
     let b : tie.After-backward = search in
     f .forward .ensures .0 .frame .l-kept .long ∙ u .set-unit-row .ensures .kept .long ∙ b .backward .ensures .0 .frame .l-kept .long ∙ way (trimmed b) .cleared .clear-l-column .ensures .kept .long
 
-same-length-2 : tie.Need-same-length-2
-same-length-2 c = search needs
-
-same-length-3 : tie.Need-same-length-3
-same-length-3 c = search needs
-
-same-length-4 : tie.Need-same-length-4
-same-length-4 c = search needs
-
 same-length-5 : tie.Need-same-length-5
 unfolding way trimmed
 same-length-5 c =
@@ -127,17 +106,17 @@ pub replace-row-spec : {M : Type 1} → statement M
 replace-row-spec =
     tie.close
     (tie.spec
-    read-l-column-requires
-    clear-l-column-requires
-    sub-trim
-    trim-requires
+    (λ c κs. search needs)
+    (λ c κs. search needs)
+    (λ c. search needs)
+    (λ c κs. search needs)
     backward-requires
     set-unit-row-requires
     forward-requires
     add-result
     same-length
-    same-length-2
-    same-length-3
-    same-length-4
+    (λ c. search needs)
+    (λ c. search needs)
+    (λ c. search needs)
     same-length-5
     returns)

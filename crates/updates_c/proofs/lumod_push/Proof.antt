@@ -8,27 +8,6 @@ use Rattle.answers.proofs.Returns.{returned}
 use Rattle.updates_c.proofs.lumod_push.Statement.{statement}
 use Rattle.updates_c.proofs.lumod_push.Tie as tie
 
-push-requires : tie.Need-push-requires
-push-requires c κs = search needs
-
-answer-number-requires : tie.Need-answer-number-requires
-answer-number-requires c κs = search needs
-
-same-length : tie.Need-same-length
-same-length c = search needs
-
-same-length-2 : tie.Need-same-length-2
-same-length-2 c = search needs
-
-same-length-3 : tie.Need-same-length-3
-same-length-3 c = search needs
-
-same-length-4 : tie.Need-same-length-4
-same-length-4 c = search needs
-
-same-length-5 : tie.Need-same-length-5
-same-length-5 c = search needs
-
 returns : tie.Need-returns
 returns c =
     let p : tie.After-push = search in
@@ -40,11 +19,11 @@ pub lumod-push-spec : {M : Type 1} → statement M
 lumod-push-spec =
     tie.close
     (tie.spec
-    push-requires
-    answer-number-requires
-    same-length
-    same-length-2
-    same-length-3
-    same-length-4
-    same-length-5
+    (λ c κs. search needs)
+    (λ c κs. search needs)
+    (λ c. search needs)
+    (λ c. search needs)
+    (λ c. search needs)
+    (λ c. search needs)
+    (λ c. search needs)
     returns)

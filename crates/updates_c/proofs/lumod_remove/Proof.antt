@@ -12,33 +12,6 @@ use Rattle.updates_c.proofs.lumod_remove.Tie as tie
 begun : tie.After-remove → tie.Start
 begun c = search
 
-remove-requires : tie.Need-remove-requires
-remove-requires c κs = search needs
-
-moved-row-requires : tie.Need-moved-row-requires
-moved-row-requires c κs = search needs
-
-moved-column-requires : tie.Need-moved-column-requires
-moved-column-requires c κs = search needs
-
-remove-number-requires : tie.Need-remove-number-requires
-remove-number-requires c κs = search needs
-
-same-length : tie.Need-same-length
-same-length c = search needs
-
-same-length-2 : tie.Need-same-length-2
-same-length-2 c = search needs
-
-same-length-3 : tie.Need-same-length-3
-same-length-3 c = search needs
-
-same-length-4 : tie.Need-same-length-4
-same-length-4 c = search needs
-
-same-length-5 : tie.Need-same-length-5
-same-length-5 c = search needs
-
 returns : tie.Need-returns
 unfolding begun
 returns c =
@@ -51,13 +24,13 @@ pub lumod-remove-spec : {M : Type 1} → statement M
 lumod-remove-spec =
     tie.close
     (tie.spec
-    remove-requires
-    moved-row-requires
-    moved-column-requires
-    remove-number-requires
-    same-length
-    same-length-2
-    same-length-3
-    same-length-4
-    same-length-5
+    (λ c κs. search needs)
+    (λ c κs. search needs)
+    (λ c κs. search needs)
+    (λ c κs. search needs)
+    (λ c. search needs)
+    (λ c. search needs)
+    (λ c. search needs)
+    (λ c. search needs)
+    (λ c. search needs)
     returns)

@@ -8,16 +8,10 @@ use Rattle.host_numbers.specs.Numbers.{outside}
 use Rattle.zero_based_tests.proofs.index_outside.Statement.{statement}
 use Rattle.zero_based_tests.proofs.index_outside.Tie as tie
 
-outside-requires : tie.Need-outside-requires
-outside-requires c κs = search needs
-
 returns : tie.Need-returns
 returns c =
     let start = c .before .before in
     rw (eq-eqb _ _ (c .before .if1 .taken)) (c .outside .ensures ∙ ap (λ (z : ℤ). outside z (start .args .n)) (toZ-ofZ (start .fits .index)))
-
-outside-requires-2 : tie.Need-outside-requires-2
-outside-requires-2 c κs = search needs
 
 returns-2 : tie.Need-returns-2
 returns-2 c =
@@ -29,4 +23,4 @@ returns-3 c = simp (ne-eqb _ _ (c .before .if1 .left), ne-eqb _ _ (c .if2 .left)
 
 pub index-outside-spec : {M : Type 1} → statement M
 index-outside-spec =
-    tie.close (tie.spec outside-requires returns outside-requires-2 returns-2 returns-3)
+    tie.close (tie.spec (λ c κs. search needs) returns (λ c κs. search needs) returns-2 returns-3)

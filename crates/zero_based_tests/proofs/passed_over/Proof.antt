@@ -30,17 +30,11 @@ returns-3 c =
     let start = c .before .before .before in
     let above : 4 < start .args .mode = omega (arith, c .if3 .taken) in simp (ne-eqb _ _ (c .before .before .if1 .left), le-ltb _ _ (c .before .if2 .left), lt-ltb 4 (start .args .mode) above)
 
-index-outside-requires : tie.Need-index-outside-requires
-index-outside-requires c κs = search needs
-
 returns-4 : tie.Need-returns-4
 unfolding passedOver
 returns-4 c =
     let start = c .before .before .before .before .before in
     let e = sym (c .before .index-outside .ensures ∙ ap (λ (z : ℤ). indexOutside (start .args .mode) 3 z (start .args .n)) (toZ-ofZ (start .fits .krow))) ∙ c .if4 .taken in simp (ne-eqb _ _ (c .before .before .before .before .if1 .left), le-ltb _ _ (c .before .before .before .if2 .left), e, or-true (ltb 4 (start .args .mode)))
-
-index-outside-requires-2 : tie.Need-index-outside-requires-2
-index-outside-requires-2 c κs = search needs
 
 returns-5 : tie.Need-returns-5
 unfolding passedOver
@@ -59,7 +53,7 @@ passed-over-spec =
     returns
     returns-2
     returns-3
-    index-outside-requires
+    (λ c κs. search needs)
     returns-4
-    index-outside-requires-2
+    (λ c κs. search needs)
     returns-5)

@@ -11,9 +11,6 @@ returns : tie.Need-returns
 unfolding solveLacksRoom
 returns c = simp (lt-ltb _ _ (c .if1 .taken))
 
-add-if2 : tie.Need-add-if2
-add-if2 c = search needs
-
 mul-if2 : tie.Need-mul-if2
 mul-if2 c = omega (arith, length-fits (c .before .args .stride) (omega arith))
 
@@ -26,4 +23,4 @@ unfolding solveLacksRoom
 returns-3 c = simp (le-ltb _ _ (c .before .if1 .left), le-ltb _ _ (c .if2 .left))
 
 pub solve-lacks-room-spec : {M : Type 1} → statement M
-solve-lacks-room-spec = tie.close (tie.spec returns add-if2 mul-if2 returns-2 returns-3)
+solve-lacks-room-spec = tie.close (tie.spec returns (λ c. search needs) mul-if2 returns-2 returns-3)

@@ -18,9 +18,6 @@ returns-2 : tie.Need-returns-2
 unfolding updateLacksRoom
 returns-2 c = simp (le-ltb _ _ (c .before .if1 .left), lt-ltb _ _ (c .if2 .taken))
 
-add-if3 : tie.Need-add-if3
-add-if3 c = search needs
-
 mul-if3 : tie.Need-mul-if3
 mul-if3 c = omega (arith, length-fits (c .before .before .args .stride) (omega arith))
 
@@ -43,4 +40,4 @@ returns-6 c = simp (le-ltb _ _ (c .before .before .before .before .if1 .left), l
 pub update-lacks-room-spec : {M : Type 1} → statement M
 update-lacks-room-spec =
     tie.close
-    (tie.spec returns mul-if2 returns-2 add-if3 mul-if3 returns-3 returns-4 returns-5 returns-6)
+    (tie.spec returns mul-if2 returns-2 (λ c. search needs) mul-if3 returns-3 returns-4 returns-5 returns-6)

@@ -29,12 +29,6 @@ row-way c = search
 remove-way : tie.Else3 → Way
 remove-way c = search
 
-zero-based-requires : tie.Need-zero-based-requires
-zero-based-requires c κs = search needs
-
-push-requires : tie.Need-push-requires
-push-requires c κs = search needs
-
 replace-column-requires : tie.Need-replace-column-requires
 replace-column-requires c κs =
     let if2 = let t : tie.Then2 = search in t .if2 in
@@ -53,21 +47,6 @@ remove-requires c κs =
     let column = p .1 .1 .1 .1 .1 .1 .1 .1 .1 (omega arith) in
     (p .0, (p .1 .0, (p .1 .1 .0, (p .1 .1 .1 .0, (omega arith, omega arith)))))
 
-same-length : tie.Need-same-length
-same-length c = search needs
-
-same-length-2 : tie.Need-same-length-2
-same-length-2 c = search needs
-
-same-length-3 : tie.Need-same-length-3
-same-length-3 c = search needs
-
-same-length-4 : tie.Need-same-length-4
-same-length-4 c = search needs
-
-same-length-5 : tie.Need-same-length-5
-same-length-5 c = search needs
-
 returns : tie.Need-returns
 unfolding push-way
 returns c =
@@ -78,21 +57,6 @@ returns c =
     push-performed N zeroBasedEpsilon zeroBasedTiny (b .0) (b .1) (a .mode) (a .stride) (a .n) (a .row) (a .column) (now (a .l)) (now (a .u)) (now (a .y)) (now (a .z)) (now (a .w))
     (t .if1 .taken)
     (push .ensures)
-
-same-length-6 : tie.Need-same-length-6
-same-length-6 c = search needs
-
-same-length-7 : tie.Need-same-length-7
-same-length-7 c = search needs
-
-same-length-8 : tie.Need-same-length-8
-same-length-8 c = search needs
-
-same-length-9 : tie.Need-same-length-9
-same-length-9 c = search needs
-
-same-length-10 : tie.Need-same-length-10
-same-length-10 c = search needs
 
 returns-2 : tie.Need-returns-2
 unfolding column-way
@@ -106,21 +70,6 @@ returns-2 c =
     (p .1 .1 .1 .1 .1 .1 .1 .1 .0 (t .if2 .taken))
     (replace-column .ensures)
 
-same-length-11 : tie.Need-same-length-11
-same-length-11 c = search needs
-
-same-length-12 : tie.Need-same-length-12
-same-length-12 c = search needs
-
-same-length-13 : tie.Need-same-length-13
-same-length-13 c = search needs
-
-same-length-14 : tie.Need-same-length-14
-same-length-14 c = search needs
-
-same-length-15 : tie.Need-same-length-15
-same-length-15 c = search needs
-
 returns-3 : tie.Need-returns-3
 unfolding row-way
 returns-3 c =
@@ -133,21 +82,6 @@ returns-3 c =
     row-performed N zeroBasedEpsilon zeroBasedTiny (b .0) (b .1) (a .mode) (a .stride) (a .n) (a .row) (a .column) (now (a .l)) (now (a .u)) (now (a .y)) (now (a .z)) (now (a .w)) (t .if3 .taken)
     (p .1 .1 .1 .1 .1 .1 .1 .0 (omega arith))
     (replace-row .ensures)
-
-same-length-16 : tie.Need-same-length-16
-same-length-16 c = search needs
-
-same-length-17 : tie.Need-same-length-17
-same-length-17 c = search needs
-
-same-length-18 : tie.Need-same-length-18
-same-length-18 c = search needs
-
-same-length-19 : tie.Need-same-length-19
-same-length-19 c = search needs
-
-same-length-20 : tie.Need-same-length-20
-same-length-20 c = search needs
 
 returns-4 : tie.Need-returns-4
 unfolding remove-way
@@ -167,32 +101,32 @@ pub perform-spec : {M : Type 1} → statement M
 perform-spec =
     tie.close
     (tie.spec
-    zero-based-requires
-    push-requires
+    (λ c κs. search needs)
+    (λ c κs. search needs)
     replace-column-requires
     replace-row-requires
     remove-requires
-    same-length
-    same-length-2
-    same-length-3
-    same-length-4
-    same-length-5
+    (λ c. search needs)
+    (λ c. search needs)
+    (λ c. search needs)
+    (λ c. search needs)
+    (λ c. search needs)
     returns
-    same-length-6
-    same-length-7
-    same-length-8
-    same-length-9
-    same-length-10
+    (λ c. search needs)
+    (λ c. search needs)
+    (λ c. search needs)
+    (λ c. search needs)
+    (λ c. search needs)
     returns-2
-    same-length-11
-    same-length-12
-    same-length-13
-    same-length-14
-    same-length-15
+    (λ c. search needs)
+    (λ c. search needs)
+    (λ c. search needs)
+    (λ c. search needs)
+    (λ c. search needs)
     returns-3
-    same-length-16
-    same-length-17
-    same-length-18
-    same-length-19
-    same-length-20
+    (λ c. search needs)
+    (λ c. search needs)
+    (λ c. search needs)
+    (λ c. search needs)
+    (λ c. search needs)
     returns-4)

@@ -14,15 +14,6 @@ use Rattle.api.proofs.LuMod.from_storage.Tie as tie
 under : {t r : Test} {o : Option Answer} (n c : ℕ) → testOf r ≡ o → r ≡ t → adoptedUnder (testOf t) n c ≡ adoptedUnder o n c
 under n c e k = ap (λ (p : Option Answer). adoptedUnder p n c) (ap testOf (sym k) ∙ e)
 
-test-storage-requires : tie.Need-test-storage-requires
-test-storage-requires c κs = search needs
-
-enum-told : tie.Need-enum-told
-enum-told c = search needs
-
-enum-known-test : tie.Need-enum-known-test
-enum-known-test c = search needs
-
 returns : tie.Need-returns
 returns c = under _ _ (c .before .before .test-storage .ensures) (c .enum-told .given .1)
 
@@ -31,4 +22,4 @@ returns-2 c = under _ _ (c .before .before .before .test-storage .ensures) (c .b
 
 pub from-storage-spec : {M : Type 1} → statement M
 from-storage-spec =
-    tie.close (tie.spec test-storage-requires enum-told enum-known-test returns returns-2)
+    tie.close (tie.spec (λ c κs. search needs) (λ c. search needs) (λ c. search needs) returns returns-2)

@@ -7,27 +7,6 @@ use Rattle.managed.proofs.Outcomes.{outcome-as}
 use Rattle.api.proofs.LuMod.remove.Statement.{statement}
 use Rattle.api.proofs.LuMod.remove.Tie as tie
 
-remove-requires : tie.Need-remove-requires
-remove-requires c κs = search needs
-
-remove-result-requires : tie.Need-remove-result-requires
-remove-result-requires c κs = search needs
-
-same-length : tie.Need-same-length
-same-length c = search needs
-
-same-length-2 : tie.Need-same-length-2
-same-length-2 c = search needs
-
-same-length-3 : tie.Need-same-length-3
-same-length-3 c = search needs
-
-same-length-4 : tie.Need-same-length-4
-same-length-4 c = search needs
-
-same-length-5 : tie.Need-same-length-5
-same-length-5 c = search needs
-
 returns : tie.Need-returns
 returns c =
     let u : tie.After-remove = search in
@@ -39,11 +18,11 @@ pub remove-spec : {M : Type 1} → statement M
 remove-spec =
     tie.close
     (tie.spec
-    remove-requires
-    remove-result-requires
-    same-length
-    same-length-2
-    same-length-3
-    same-length-4
-    same-length-5
+    (λ c κs. search needs)
+    (λ c κs. search needs)
+    (λ c. search needs)
+    (λ c. search needs)
+    (λ c. search needs)
+    (λ c. search needs)
+    (λ c. search needs)
     returns)

@@ -7,27 +7,6 @@ use Rattle.managed.proofs.Outcomes.{outcome-as}
 use Rattle.api.proofs.LuMod.replace_row.Statement.{statement}
 use Rattle.api.proofs.LuMod.replace_row.Tie as tie
 
-replace-row-requires : tie.Need-replace-row-requires
-replace-row-requires c κs = search needs
-
-update-result-requires : tie.Need-update-result-requires
-update-result-requires c κs = search needs
-
-same-length : tie.Need-same-length
-same-length c = search needs
-
-same-length-2 : tie.Need-same-length-2
-same-length-2 c = search needs
-
-same-length-3 : tie.Need-same-length-3
-same-length-3 c = search needs
-
-same-length-4 : tie.Need-same-length-4
-same-length-4 c = search needs
-
-same-length-5 : tie.Need-same-length-5
-same-length-5 c = search needs
-
 returns : tie.Need-returns
 returns c =
     let u : tie.After-replace-row = search in
@@ -39,11 +18,11 @@ pub replace-row-spec : {M : Type 1} → statement M
 replace-row-spec =
     tie.close
     (tie.spec
-    replace-row-requires
-    update-result-requires
-    same-length
-    same-length-2
-    same-length-3
-    same-length-4
-    same-length-5
+    (λ c κs. search needs)
+    (λ c κs. search needs)
+    (λ c. search needs)
+    (λ c. search needs)
+    (λ c. search needs)
+    (λ c. search needs)
+    (λ c. search needs)
     returns)

@@ -11,12 +11,6 @@ use Rattle.numerics.proofs.pair.elementary.Tie as tie
 abbrev N : NumberForm
 N = ieee binary64
 
-abs-requires : tie.Need-abs-requires
-abs-requires c κs = search needs
-
-abs-requires-2 : tie.Need-abs-requires-2
-abs-requires-2 c κs = search needs
-
 -- the place where both absolute values are known: the values there, and T
 abbrev x : tie.After-abs2 → Float
 x c = c .before .before .args .x .now
@@ -52,4 +46,4 @@ returns-4 c =
     (along N (tiny m) (x m) (y m) _ _ (m .before .abs .ensures) (m .abs2 .ensures) false false (c .before .if1 .left) (c .if3 .left))
 
 pub elementary-spec : {M : Type 1} → statement M
-elementary-spec = tie.close (tie.spec abs-requires abs-requires-2 returns returns-2 returns-3 returns-4)
+elementary-spec = tie.close (tie.spec (λ c κs. search needs) (λ c κs. search needs) returns returns-2 returns-3 returns-4)
