@@ -12,7 +12,7 @@ use Rattle.storage.specs.Views.{viewL, Kept}
 use Rattle.storage.proofs.Places.{lIndex-not-work}
 use Rattle.ranges.specs.Written.{from, Written}
 use Rattle.ranges.proofs.Vectors.{written-as}
-use Rattle.products.specs.RowSums.{entriesFrom}
+use Rattle.products.specs.LProducts.{entriesFrom}
 
 -- P is the plain or the transposed product at dimension n: it reads no more than the active entries and the first n of the vector
 module _ (N : NumberForm) (n : ℕ) (P : Table (N .Value) → Vector (N .Value) → Vector (N .Value))
