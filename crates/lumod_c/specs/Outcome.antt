@@ -28,11 +28,11 @@ module _ (N : NumberForm) where
 
   -- mode 1 is plain, any other mode transposed
   unfoldable pub productOf : ℕ → ℕ → ℕ → List Value → List Value → Vector Value
-  productOf mode c n l y = cond (eqb mode 1) (lProduct N n c l y) (lProductTransposed N n c l y)
+  productOf mode c n l y = cond (eqb mode 1) (lProduct N c n l y) (lProductTransposed N c n l y)
 
   -- the part of a solve that divides by U's diagonal, without the L product
   unfoldable pub solveOf : ℕ → ℕ → ℕ → List Value → List Value → Vector Value
-  solveOf mode c n u y = cond (eqb mode 1) (backSubstituted N n c u y) (forwardSubstituted N n c u y)
+  solveOf mode c n u y = cond (eqb mode 1) (backSubstituted N c n u y) (forwardSubstituted N c n u y)
 
   -- `Lprod` writes the L product of y to the first n of z; y and L are only read.
   abbrev pub ProductOutcome : ℤ → ℤ → ℤ → List Value → List Value → List Value → List Value → ℕ → Type 0

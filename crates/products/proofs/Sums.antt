@@ -22,7 +22,7 @@ module _ (N : NumberForm) where
   open NumberForm N using (Value, add, mul)
 
   -- a row's sum is an entry of the product
-  pub row-product : (c n i a start : ℕ) (l v : List Value) {s : Value} → a ≡ i * c → s ≡ dotProduct N l a v start n → s ≡ lProductFrom N n c l v start i
+  pub row-product : (c n i a start : ℕ) (l v : List Value) {s : Value} → a ≡ i * c → s ≡ dotProduct N l a v start n → s ≡ lProductFrom N c n l v start i
   unfolding product
   row-product c n i a start l v e f = f ∙ (λ t. dotProduct N l (e t) v start n)
 

@@ -16,18 +16,18 @@ module _ (N : NumberForm) where
   entriesFrom start xs j = entry N xs (start + j)
 
   -- the product of the entries of v with the L of dimension n that l holds
-  abbrev pub lProduct : (n stride : ℕ) → (l v : List Value) → Vector Value
-  lProduct n stride l v = product N n (viewL N stride l) (entry N v)
+  abbrev pub lProduct : (stride n : ℕ) → (l v : List Value) → Vector Value
+  lProduct stride n l v = product N n (viewL N stride l) (entry N v)
 
-  abbrev pub lProductTransposed : (n stride : ℕ) → (l v : List Value) → Vector Value
-  lProductTransposed n stride l v = productTransposed N n (viewL N stride l) (entry N v)
+  abbrev pub lProductTransposed : (stride n : ℕ) → (l v : List Value) → Vector Value
+  lProductTransposed stride n l v = productTransposed N n (viewL N stride l) (entry N v)
 
   -- the same of the entries from `start` on
-  abbrev pub lProductFrom : (n stride : ℕ) → (l v : List Value) → (start : ℕ) → Vector Value
-  lProductFrom n stride l v start = product N n (viewL N stride l) (entriesFrom start v)
+  abbrev pub lProductFrom : (stride n : ℕ) → (l v : List Value) → (start : ℕ) → Vector Value
+  lProductFrom stride n l v start = product N n (viewL N stride l) (entriesFrom start v)
 
-  abbrev pub lProductTransposedFrom : (n stride : ℕ) → (l v : List Value) → (start : ℕ) → Vector Value
-  lProductTransposedFrom n stride l v start = productTransposed N n (viewL N stride l) (entriesFrom start v)
+  abbrev pub lProductTransposedFrom : (stride n : ℕ) → (l v : List Value) → (start : ℕ) → Vector Value
+  lProductTransposedFrom stride n l v start = productTransposed N n (viewL N stride l) (entriesFrom start v)
 
   -- for the rows of l that begin at a, b, c and d, the sums of their products with the entries of v from `start` on
   abbrev pub FourDots : (l : List Value) → (a b c d : ℕ) → (v : List Value) → (start count : ℕ) → (first second third fourth : Value) → Type 0

@@ -17,7 +17,7 @@ use substitutions::forward_substitute;
 // b becomes the L product of b; the work takes what b was.
 fn apply_l(n: usize, capacity: usize, l: &mut [f64], b: &mut [f64])
     requires { ⌜ (n ≤ capacity) × ((capacity < 2 ^ 32) × ((lLength capacity ≤ length (now l)) × (n ≤ length (now b)))) ⌝ }
-    ensures { λ _. ⌜ WrittenInPlace (ieee binary64) capacity n (lProduct (ieee binary64) n capacity (now (l .entry)) (now (b .entry)))
+    ensures { λ _. ⌜ WrittenInPlace (ieee binary64) capacity n (lProduct (ieee binary64) capacity n (now (l .entry)) (now (b .entry)))
         (now (l .entry)) (now (b .entry)) (now (l .exit)) (now (b .exit)) ⌝ }
 {
     let work = capacity * capacity;
@@ -28,7 +28,7 @@ fn apply_l(n: usize, capacity: usize, l: &mut [f64], b: &mut [f64])
 // The same with L transposed.
 fn apply_l_transposed(n: usize, capacity: usize, l: &mut [f64], b: &mut [f64])
     requires { ⌜ (n ≤ capacity) × ((capacity < 2 ^ 32) × ((lLength capacity ≤ length (now l)) × (n ≤ length (now b)))) ⌝ }
-    ensures { λ _. ⌜ WrittenInPlace (ieee binary64) capacity n (lProductTransposed (ieee binary64) n capacity (now (l .entry)) (now (b .entry)))
+    ensures { λ _. ⌜ WrittenInPlace (ieee binary64) capacity n (lProductTransposed (ieee binary64) capacity n (now (l .entry)) (now (b .entry)))
         (now (l .entry)) (now (b .entry)) (now (l .exit)) (now (b .exit)) ⌝ }
 {
     let work = capacity * capacity;

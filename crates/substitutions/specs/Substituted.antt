@@ -10,8 +10,8 @@ use Rattle.storage.specs.Views.{viewU}
 module _ (N : NumberForm) where
   open NumberForm N using (Value)
 
-  abbrev pub backSubstituted : (n stride : ℕ) → (u b : List Value) → Vector Value
-  backSubstituted n stride u b = backSubstitution N n (viewU N stride u) (entry N b) n
+  abbrev pub backSubstituted : (stride n : ℕ) → (u b : List Value) → Vector Value
+  backSubstituted stride n u b = backSubstitution N n (viewU N stride u) (entry N b) n
 
-  abbrev pub forwardSubstituted : (n stride : ℕ) → (u b : List Value) → Vector Value
-  forwardSubstituted n stride u b = forwardSubstitution N (viewU N stride u) (entry N b) n
+  abbrev pub forwardSubstituted : (stride n : ℕ) → (u b : List Value) → Vector Value
+  forwardSubstituted stride n u b = forwardSubstitution N (viewU N stride u) (entry N b) n

@@ -28,7 +28,7 @@ module _ (N : NumberForm) (E T : N .Value) where
   open NumberForm N using (Value)
 
   module _ (c n k : ℕ) (l u y z w u₁ w₁ : List Value) (hc : n ≤ c) (hk : k < n)
-      (ws : Written N (λ i. i) n (lProduct N n c l z) w w₁) (us : Written N (λ i. uIndex c i k) (k + 1) (entry N w₁) u u₁) where
+      (ws : Written N (λ i. i) n (lProduct N c n l z) w w₁) (us : Written N (λ i. uIndex c i k) (k + 1) (entry N w₁) u u₁) where
     column-start : AgreeWithin n n n n (workOf N c l u₁ y w₁) (putColumn k (columnProduct N n (viewL N c l) (viewU N c u) z))
     column-start =
         column-put N c n n n k l u y w₁ hc hk us (record { L = λ i j a b. refl; U = λ i j a b. refl; y = λ j a b. absurd (omega arith); v = λ j h. ws .value j h })

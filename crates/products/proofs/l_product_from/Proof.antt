@@ -20,7 +20,7 @@ abbrev N : NumberForm
 N = ieee binary64
 
 abbrev Inv-loop : tie.InvT-loop
-Inv-loop n stride l input start output₀ done i₀ output i = (i ≤ n) × Written N (λ k. k) i (lProductFrom N n stride l input start) output₀ output
+Inv-loop n stride l input start output₀ done i₀ output i = (i ≤ n) × Written N (λ k. k) i (lProductFrom N stride n l input start) output₀ output
 
 abbrev μ-loop : tie.MeasureT-loop
 μ-loop n stride l input start output₀ done i₀ output i = n - i
