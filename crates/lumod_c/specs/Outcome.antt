@@ -9,10 +9,11 @@ use lib.IntN.{ℤ}
 use lib.ListN.{length}
 use Rattle.numbers.specs.NumberForm.{NumberForm}
 use Rattle.machine.specs.Tables.{Vector}
+use Rattle.machine.specs.Products.{entry, product, productTransposed}
+use Rattle.machine.specs.Solves.{backSubstitution, forwardSubstitution}
 use Rattle.machine.specs.Calls.{Answer, refusalNumber}
+use Rattle.storage.specs.Views.{viewL, viewU}
 use Rattle.ranges.specs.Written.{Written}
-use Rattle.products.specs.LProducts.{lProduct, lProductTransposed}
-use Rattle.substitutions.specs.Substituted.{backSubstituted, forwardSubstituted}
 use Rattle.zero_based_updates.specs.UpdateDone.{UpdateDone}
 use Rattle.host_numbers.specs.Numbers.{sizeOf, strideOf}
 use Rattle.zero_based_tests.specs.Refusals.{updateRefusal, productRefusal, solveRefusal}
@@ -28,11 +29,11 @@ module _ (N : NumberForm) where
 
   -- mode 1 is plain, any other mode transposed
   unfoldable pub productOf : ℕ → ℕ → ℕ → List Value → List Value → Vector Value
-  productOf mode c n l y = cond (eqb mode 1) (lProduct N c n l y) (lProductTransposed N c n l y)
+  productOf mode c n l y = cond (eqb mode 1) (product N n (viewL N c l) (entry N y)) (productTransposed N n (viewL N c l) (entry N y))
 
   -- the part of a solve that divides by U's diagonal, without the L product
   unfoldable pub solveOf : ℕ → ℕ → ℕ → List Value → List Value → Vector Value
-  solveOf mode c n u y = cond (eqb mode 1) (backSubstituted N c n u y) (forwardSubstituted N c n u y)
+  solveOf mode c n u y = cond (eqb mode 1) (backSubstitution N n (viewU N c u) (entry N y) n) (forwardSubstitution N (viewU N c u) (entry N y) n)
 
   -- `Lprod` writes the L product of y to the first n of z; y and L are only read.
   abbrev pub ProductOutcome : ℤ → ℤ → ℤ → List Value → List Value → List Value → List Value → ℕ → Type 0
