@@ -1,19 +1,19 @@
 // Columns of L and of the packed triangle U, in storage of a stride.
 ghost use mathlib.Core.Path.{_≡_};
-ghost use Prim.Native.Nat.{_+_, _*_, _^_, _≤_, _<_};
+ghost use Prim.Native.Nat.{_+_, _^_, _≤_, _<_};
 ghost use lib.ListN.{length};
 ghost use lib.Ieee.{binary64, mul};
 ghost use Rattle.numbers.specs.NumberForm.{ieee};
 ghost use Rattle.machine.specs.Products.{entry, sum};
 ghost use Rattle.storage.specs.Places.{lIndex, uIndex, uLength};
-ghost use Rattle.storage.specs.Views.{viewL, viewU};
+ghost use Rattle.storage.specs.Views.{viewL, viewU, LRoom};
 ghost use Rattle.ranges.specs.Written.{Written};
 use storage::l_index;
 use storage::u_index;
 
 // values[i] takes L(i, column) for i below rows.
 pub fn read_l_column(l: &[f64], column: usize, rows: usize, stride: usize, values: &mut [f64])
-    requires { ⌜ (column < stride) × ((rows ≤ stride) × ((stride < 2 ^ 32) × ((stride * stride ≤ length (now l)) × (rows ≤ length (now values))))) ⌝ }
+    requires { ⌜ (column < stride) × (LRoom (ieee binary64) stride rows (now l) × (rows ≤ length (now values))) ⌝ }
     ensures { λ _. ⌜ Written (ieee binary64) (λ k. k) rows (λ i. viewL (ieee binary64) stride (now (l .entry)) i column) (now (values .entry)) (now (values .exit)) ⌝ }
 {
     for i in 0..rows {
@@ -23,7 +23,7 @@ pub fn read_l_column(l: &[f64], column: usize, rows: usize, stride: usize, value
 
 // L(i, column) becomes +0 for i below rows.
 pub fn clear_l_column(l: &mut [f64], column: usize, rows: usize, stride: usize)
-    requires { ⌜ (column < stride) × ((rows ≤ stride) × ((stride < 2 ^ 32) × (stride * stride ≤ length (now l)))) ⌝ }
+    requires { ⌜ (column < stride) × LRoom (ieee binary64) stride rows (now l) ⌝ }
     ensures { λ _. ⌜ Written (ieee binary64) (λ i. lIndex stride i column) rows (λ i. ieee binary64 .zero) (now (l .entry)) (now (l .exit)) ⌝ }
 {
     for i in 0..rows {
@@ -33,7 +33,7 @@ pub fn clear_l_column(l: &mut [f64], column: usize, rows: usize, stride: usize)
 
 // L(i, target) takes L(i, source) for i below rows.
 pub fn copy_l_column(l: &mut [f64], source: usize, target: usize, rows: usize, stride: usize)
-    requires { ⌜ (source < stride) × ((target < stride) × ((rows ≤ stride) × ((stride < 2 ^ 32) × (stride * stride ≤ length (now l))))) ⌝ }
+    requires { ⌜ (source < stride) × ((target < stride) × LRoom (ieee binary64) stride rows (now l)) ⌝ }
     ensures { λ _. ⌜ Written (ieee binary64) (λ i. lIndex stride i target) rows (λ i. viewL (ieee binary64) stride (now (l .entry)) i source) (now (l .entry)) (now (l .exit)) ⌝ }
 {
     for i in 0..rows {

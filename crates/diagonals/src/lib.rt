@@ -1,12 +1,9 @@
 // The search for a diagonal of U that no solve can divide by.
 ghost use mathlib.Core.Path.{_≡_};
-ghost use Prim.Native.Nat.{_^_, _≤_, _<_};
-ghost use lib.ListN.{length};
 ghost use lib.Ieee.{binary64};
 ghost use Rattle.numbers.specs.NumberForm.{ieee};
 ghost use Rattle.machine.specs.Solves.{diagonals};
-ghost use Rattle.storage.specs.Places.{uLength};
-ghost use Rattle.storage.specs.Views.{viewU};
+ghost use Rattle.storage.specs.Views.{viewU, URoom};
 ghost use Rattle.diagonals.specs.Diagonal.{answerOf};
 use numerics::real::is_finite;
 use storage::u_index;
@@ -20,7 +17,7 @@ pub enum Diagonal {
 
 // The first of the first n diagonals that is zero, infinite or NaN, with its index.
 pub fn test_diagonal(n: usize, stride: usize, u: &[f64]) -> Diagonal
-    requires { ⌜ (n ≤ stride) × ((stride < 2 ^ 32) × (uLength stride ≤ length (now u))) ⌝ }
+    requires { ⌜ URoom (ieee binary64) stride n (now u) ⌝ }
     ensures { λ r. ⌜ answerOf r ≡ diagonals (ieee binary64) (viewU (ieee binary64) stride (now (u .entry))) n ⌝ }
 {
     for i in 0..n {

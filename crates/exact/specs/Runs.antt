@@ -12,7 +12,8 @@ use Rattle.machine.specs.Tables.{State}
 use Rattle.machine.specs.Products.{sum, product}
 use Rattle.machine.specs.Forward.{copyDenseToRow, transformRows, forwardActs, forwardTransform, forwardRow, forwardRows, forward}
 use Rattle.machine.specs.Backward.{copyRowToDense, negligible, trim, clearDense, backwardSkips, backwardTransform, backwardRow, backwardRows, backward}
-use Rattle.machine.specs.Updates.{putColumn, putSelected, columnCopied, bordered, columnCleared, unitRow, restoredFrom, restored, pushed, columnReplaced, rowReplacedFrom, rowReplaced, columnDropped, removed}
+use Rattle.machine.specs.Updates.{putColumn, putSelected, columnCopied, bordered, columnCleared, unitRow}
+use Rattle.machine.specs.Updates.{restoredFrom, restored, pushed, columnReplaced, rowReplacedFrom, rowReplaced, columnDropped, removed}
 use Rattle.machine.specs.Calls.{Call, push, Answer, done, moved, refused, refusedAt, Result, numberOf}
 use Rattle.machine.specs.Machine.{refusal, accepted, stepUnder, step, run}
 use Rattle.exact.specs.Fractions.{Fraction, _≈_, negative, whole, ratio, Undefined, fractions}

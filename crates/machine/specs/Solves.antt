@@ -35,13 +35,19 @@ module _ (N : NumberForm) where
       let total = sum N k (λ j. mul (U j k) (c j)) in
       put k (substituted (c k) total (U k k)) c
 
-  -- Solve: the L product of the right-hand side, then back substitution.
-  unfoldable pub solution : State Value → List Value → List Value
-  solution S b = tabulate (S .n) (backSubstitution (S .n) (S .U) (product N (S .n) (S .L) (entry N b)) (S .n))
+  -- Solve: the L product of the right-hand side, then back substitution in all rows.
+  abbrev pub solutionVector : State Value → List Value → Vector Value
+  solutionVector S b = backSubstitution (S .n) (S .U) (product N (S .n) (S .L) (entry N b)) (S .n)
 
-  -- Transpose solve: forward substitution, then the transposed L product.
+  unfoldable pub solution : State Value → List Value → List Value
+  solution S b = tabulate (S .n) (solutionVector S b)
+
+  -- Transpose solve: forward substitution in all rows, then the transposed L product.
+  abbrev pub solutionTransposeVector : State Value → List Value → Vector Value
+  solutionTransposeVector S b = productTransposed N (S .n) (S .L) (forwardSubstitution (S .U) (entry N b) (S .n))
+
   unfoldable pub solutionTranspose : State Value → List Value → List Value
-  solutionTranspose S b = tabulate (S .n) (productTransposed N (S .n) (S .L) (forwardSubstitution (S .U) (entry N b) (S .n)))
+  solutionTranspose S b = tabulate (S .n) (solutionTransposeVector S b)
 
   -- 9 for a zero on the diagonal, 10 for an infinity or a NaN, with the index
   abbrev pub badDiagonal : Value → ℕ → Option Answer

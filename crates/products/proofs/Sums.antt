@@ -13,24 +13,25 @@ use Rattle.storage.specs.Views.{viewL}
 use Rattle.storage.proofs.Kept.{kept-then, kept-more}
 use Rattle.storage.proofs.Places.{row-before}
 use Rattle.ranges.specs.Written.{from, Written}
+use Rattle.ranges.specs.Sums.{dotProduct, multipleAdded}
 use Rattle.ranges.proofs.Writing.{range-apart, written-none, written-more, stored, sum-more}
 use Rattle.ranges.proofs.Vectors.{written-as, written-over}
-use Rattle.products.specs.RowSums.{entriesFrom, rowSum}
+use Rattle.products.specs.LProducts.{entriesFrom, lProductFrom}
 
 module _ (N : NumberForm) where
   open NumberForm N using (Value, add, mul)
 
   -- a row's sum is an entry of the product
-  pub row-product : (c n i a start : ℕ) (l v : List Value) {s : Value} → a ≡ i * c → s ≡ rowSum N a start n l v → s ≡ product N n (viewL N c l) (entriesFrom N start v) i
+  pub row-product : (c n i a start : ℕ) (l v : List Value) {s : Value} → a ≡ i * c → s ≡ dotProduct N l a v start n → s ≡ lProductFrom N c n l v start i
   unfolding product
-  row-product c n i a start l v e f = f ∙ (λ t. rowSum N (e t) start n l v)
+  row-product c n i a start l v e f = f ∙ (λ t. dotProduct N l (e t) v start n)
 
   -- the sums after j rows
   abbrev pub rowSums : ℕ → ℕ → List Value → Vector Value → Vector Value
   rowSums c j l v i = sum N j (λ q. mul (viewL N c l q i) (v q))
 
   pub row-sums-more : (c n j : ℕ) (l : List Value) (v : Vector Value) {x : Value} {a b b′ : List Value} → x ≡ v j → Written N (λ i. i) n (rowSums c j l v) a b
-      → Written N (λ i. i) n (λ k. add (entry N b k) (mul (entry N l (j * c + k)) x)) b b′ → Written N (λ i. i) n (rowSums c (j + 1) l v) a b′
+      → Written N (λ i. i) n (multipleAdded N b l (j * c) x) b b′ → Written N (λ i. i) n (rowSums c (j + 1) l v) a b′
   row-sums-more c n j l v {x} e h g =
       written-over N h (written-as N _ (λ k l′. (λ t. add (h .value k l′ t) (mul (entry N l (j * c + k)) (e t))) ∙ sum-more N _ refl) g)
 

@@ -1,1 +1,1 @@
-pub mod RowSums
+pub mod LProducts

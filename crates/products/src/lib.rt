@@ -1,13 +1,11 @@
 // The L product of a vector, plain and transposed.
-ghost use mathlib.Core.Path.{_≡_};
-ghost use Prim.Native.Nat.{_+_, _*_, _^_, _≤_, _<_};
+ghost use Prim.Native.Nat.{_+_, _≤_};
 ghost use lib.ListN.{length};
 ghost use lib.Ieee.{binary64};
 ghost use Rattle.numbers.specs.NumberForm.{ieee};
-ghost use Rattle.machine.specs.Products.{entry, product, productTransposed};
-ghost use Rattle.storage.specs.Views.{viewL};
+ghost use Rattle.storage.specs.Views.{LRoom};
 ghost use Rattle.ranges.specs.Written.{from, Written};
-ghost use Rattle.products.specs.RowSums.{entriesFrom, rowSum};
+ghost use Rattle.products.specs.LProducts.{lProduct, lProductTransposed, lProductFrom, lProductTransposedFrom, FourDots};
 use ranges::add_multiple;
 use ranges::dot;
 use ranges::fill;
@@ -33,8 +31,7 @@ fn four_dots(
     count: usize,
 ) -> FourSums
     requires { ⌜ (a + count ≤ length (now l)) × ((b + count ≤ length (now l)) × ((c + count ≤ length (now l)) × ((d + count ≤ length (now l)) × (start + count ≤ length (now input))))) ⌝ }
-    ensures { λ r. ⌜ (r .first ≡ rowSum (ieee binary64) a start count (now (l .entry)) (now (input .entry))) × ((r .second ≡ rowSum (ieee binary64) b start count (now (l .entry)) (now (input .entry)))
-        × ((r .third ≡ rowSum (ieee binary64) c start count (now (l .entry)) (now (input .entry))) × (r .fourth ≡ rowSum (ieee binary64) d start count (now (l .entry)) (now (input .entry))))) ⌝ }
+    ensures { λ r. ⌜ FourDots (ieee binary64) (now (l .entry)) a b c d (now (input .entry)) start count (r .first) (r .second) (r .third) (r .fourth) ⌝ }
 {
     let mut first = 0.0;
     let mut second = 0.0;
@@ -65,8 +62,8 @@ fn four_products(
     start: usize,
     output: &mut [f64],
 )
-    requires { ⌜ (n ≤ stride) × ((stride < 2 ^ 32) × ((stride * stride ≤ length (now l)) × ((start + n ≤ length (now input)) × ((n ≤ length (now output)) × (i + 4 ≤ n))))) ⌝ }
-    ensures { λ _. ⌜ Written (ieee binary64) (from i) 4 (λ k. product (ieee binary64) n (viewL (ieee binary64) stride (now (l .entry))) (entriesFrom (ieee binary64) start (now (input .entry))) (i + k)) (now (output .entry)) (now (output .exit)) ⌝ }
+    requires { ⌜ LRoom (ieee binary64) stride n (now l) × ((start + n ≤ length (now input)) × ((n ≤ length (now output)) × (i + 4 ≤ n))) ⌝ }
+    ensures { λ _. ⌜ Written (ieee binary64) (from i) 4 (λ k. lProductFrom (ieee binary64) stride n (now (l .entry)) (now (input .entry)) start (i + k)) (now (output .entry)) (now (output .exit)) ⌝ }
 {
     let a = i * stride;
     let b = a + stride;
@@ -88,8 +85,8 @@ fn products_by_fours(
     start: usize,
     output: &mut [f64],
 ) -> usize
-    requires { ⌜ (n ≤ stride) × ((stride < 2 ^ 32) × ((stride * stride ≤ length (now l)) × ((start + n ≤ length (now input)) × (n ≤ length (now output))))) ⌝ }
-    ensures { λ r. ⌜ (r ≤ n) × Written (ieee binary64) (λ i. i) r (product (ieee binary64) n (viewL (ieee binary64) stride (now (l .entry))) (entriesFrom (ieee binary64) start (now (input .entry)))) (now (output .entry)) (now (output .exit)) ⌝ }
+    requires { ⌜ LRoom (ieee binary64) stride n (now l) × ((start + n ≤ length (now input)) × (n ≤ length (now output))) ⌝ }
+    ensures { λ r. ⌜ (r ≤ n) × Written (ieee binary64) (λ i. i) r (lProductFrom (ieee binary64) stride n (now (l .entry)) (now (input .entry)) start) (now (output .entry)) (now (output .exit)) ⌝ }
 {
     let mut i = 0;
     while i + 4 <= n {
@@ -108,8 +105,8 @@ pub fn l_product_from(
     start: usize,
     output: &mut [f64],
 )
-    requires { ⌜ (n ≤ stride) × ((stride < 2 ^ 32) × ((stride * stride ≤ length (now l)) × ((start + n ≤ length (now input)) × (n ≤ length (now output))))) ⌝ }
-    ensures { λ _. ⌜ Written (ieee binary64) (λ i. i) n (product (ieee binary64) n (viewL (ieee binary64) stride (now (l .entry))) (entriesFrom (ieee binary64) start (now (input .entry)))) (now (output .entry)) (now (output .exit)) ⌝ }
+    requires { ⌜ LRoom (ieee binary64) stride n (now l) × ((start + n ≤ length (now input)) × (n ≤ length (now output))) ⌝ }
+    ensures { λ _. ⌜ Written (ieee binary64) (λ i. i) n (lProductFrom (ieee binary64) stride n (now (l .entry)) (now (input .entry)) start) (now (output .entry)) (now (output .exit)) ⌝ }
 {
     let done = products_by_fours(n, stride, l, input, start, output);
     for i in done..n {
@@ -126,8 +123,8 @@ pub fn l_product_transposed_from(
     start: usize,
     output: &mut [f64],
 )
-    requires { ⌜ (n ≤ stride) × ((stride < 2 ^ 32) × ((stride * stride ≤ length (now l)) × ((start + n ≤ length (now input)) × (n ≤ length (now output))))) ⌝ }
-    ensures { λ _. ⌜ Written (ieee binary64) (λ i. i) n (productTransposed (ieee binary64) n (viewL (ieee binary64) stride (now (l .entry))) (entriesFrom (ieee binary64) start (now (input .entry)))) (now (output .entry)) (now (output .exit)) ⌝ }
+    requires { ⌜ LRoom (ieee binary64) stride n (now l) × ((start + n ≤ length (now input)) × (n ≤ length (now output))) ⌝ }
+    ensures { λ _. ⌜ Written (ieee binary64) (λ i. i) n (lProductTransposedFrom (ieee binary64) stride n (now (l .entry)) (now (input .entry)) start) (now (output .entry)) (now (output .exit)) ⌝ }
 {
     fill(output, 0, n, 0.0);
     for j in 0..n {
@@ -137,16 +134,16 @@ pub fn l_product_transposed_from(
 
 // output[i] takes the sum of L(i, j) * input[j], for i below n.
 pub fn l_product(n: usize, stride: usize, l: &[f64], input: &[f64], output: &mut [f64])
-    requires { ⌜ (n ≤ stride) × ((stride < 2 ^ 32) × ((stride * stride ≤ length (now l)) × ((n ≤ length (now input)) × (n ≤ length (now output))))) ⌝ }
-    ensures { λ _. ⌜ Written (ieee binary64) (λ i. i) n (product (ieee binary64) n (viewL (ieee binary64) stride (now (l .entry))) (entry (ieee binary64) (now (input .entry)))) (now (output .entry)) (now (output .exit)) ⌝ }
+    requires { ⌜ LRoom (ieee binary64) stride n (now l) × ((n ≤ length (now input)) × (n ≤ length (now output))) ⌝ }
+    ensures { λ _. ⌜ Written (ieee binary64) (λ i. i) n (lProduct (ieee binary64) stride n (now (l .entry)) (now (input .entry))) (now (output .entry)) (now (output .exit)) ⌝ }
 {
     l_product_from(n, stride, l, input, 0, output);
 }
 
 // output[i] takes the sum of L(j, i) * input[j], for i below n.
 pub fn l_product_transposed(n: usize, stride: usize, l: &[f64], input: &[f64], output: &mut [f64])
-    requires { ⌜ (n ≤ stride) × ((stride < 2 ^ 32) × ((stride * stride ≤ length (now l)) × ((n ≤ length (now input)) × (n ≤ length (now output))))) ⌝ }
-    ensures { λ _. ⌜ Written (ieee binary64) (λ i. i) n (productTransposed (ieee binary64) n (viewL (ieee binary64) stride (now (l .entry))) (entry (ieee binary64) (now (input .entry)))) (now (output .entry)) (now (output .exit)) ⌝ }
+    requires { ⌜ LRoom (ieee binary64) stride n (now l) × ((n ≤ length (now input)) × (n ≤ length (now output))) ⌝ }
+    ensures { λ _. ⌜ Written (ieee binary64) (λ i. i) n (lProductTransposed (ieee binary64) stride n (now (l .entry)) (now (input .entry))) (now (output .entry)) (now (output .exit)) ⌝ }
 {
     l_product_transposed_from(n, stride, l, input, 0, output);
 }

@@ -2,15 +2,14 @@
 ghost use mathlib.Core.Path.{_≡_};
 ghost use mathlib.Core.Bool.{true};
 ghost use mathlib.Core.Option.{none};
-ghost use Prim.Native.Nat.{_+_, _^_, _≤_, _<_};
+ghost use Prim.Native.Nat.{_+_};
 ghost use lib.ListN.{length};
 ghost use lib.Ieee.{binary64};
 ghost use Rattle.numbers.specs.NumberForm.{ieee};
 ghost use Rattle.machine.specs.Solves.{diagonals};
 ghost use Rattle.machine.specs.Calls.{_orElse_};
 ghost use Rattle.machine.specs.Machine.{pushTests, replacementTests, removeTests, rhsTest};
-ghost use Rattle.storage.specs.Places.{uLength};
-ghost use Rattle.storage.specs.Views.{viewU};
+ghost use Rattle.storage.specs.Views.{viewU, URoom};
 ghost use Rattle.managed.specs.Refusals.{sizeTests, storageTests, lentTests, capacityTest, updateTests, solveTests};
 ghost use Rattle.refusals.specs.Refusal.{refusalOf, testOf};
 use diagonals::Diagonal;
@@ -155,7 +154,7 @@ pub fn test_remove(n: usize, capacity: usize, lent: LentLengths, row: usize, col
 
 // 9 and 10: the diagonal of U upward, in storage that passed its tests.
 pub fn test_diagonals(n: usize, capacity: usize, u: &[f64]) -> Test
-    requires { ⌜ (n ≤ capacity) × ((capacity < 2 ^ 32) × (uLength capacity ≤ length (now u))) ⌝ }
+    requires { ⌜ URoom (ieee binary64) capacity n (now u) ⌝ }
     ensures { λ r. ⌜ testOf r ≡ diagonals (ieee binary64) (viewU (ieee binary64) capacity (now (u .entry))) n ⌝ }
 {
     let found = test_diagonal(n, capacity, u);

@@ -7,12 +7,13 @@ use native.Mathlib.Omega.{arith}
 use Rattle.numbers.specs.NumberForm.{NumberForm}
 use Rattle.machine.specs.Tables.{Vector, Table}
 use Rattle.machine.specs.Products.{entry}
-use Rattle.storage.specs.Places.{lIndex, WorkPlace}
-use Rattle.storage.specs.Views.{viewL, Kept}
+use Rattle.storage.specs.Places.{lIndex}
+use Rattle.storage.specs.Views.{viewL}
 use Rattle.storage.proofs.Places.{lIndex-not-work}
 use Rattle.ranges.specs.Written.{from, Written}
 use Rattle.ranges.proofs.Vectors.{written-as}
-use Rattle.products.specs.RowSums.{entriesFrom}
+use Rattle.products.specs.LProducts.{entriesFrom}
+use Rattle.solves.specs.InPlace.{WrittenInPlace}
 
 -- P is the plain or the transposed product at dimension n: it reads no more than the active entries and the first n of the vector
 module _ (N : NumberForm) (n : ℕ) (P : Table (N .Value) → Vector (N .Value) → Vector (N .Value))
@@ -21,7 +22,7 @@ module _ (N : NumberForm) (n : ℕ) (P : Table (N .Value) → Vector (N .Value) 
 
   -- from behind L
   pub product-in-place : (c : ℕ) {l l′ b b′ : List Value} → n ≤ c → Written N (from (c * c)) n (λ k. entriesFrom N 0 b k) l l′ → Written N (λ i. i) n (P (viewL N c l′) (entriesFrom N (c * c) l′)) b b′
-      → Written N (λ i. i) n (P (viewL N c l) (entry N b)) b b′ × Kept N (WorkPlace c n) l l′
+      → WrittenInPlace N c n (P (viewL N c l) (entry N b)) l b l′ b′
   product-in-place c {l} {l′} {b} hc copied h = (
     written-as N (P (viewL N c l′) (entriesFrom N (c * c) l′))
         (same (viewL N c l′) (viewL N c l) (entriesFrom N (c * c) l′) (entry N b)

@@ -1,14 +1,14 @@
 // Stages of the updates of the factors.
 ghost use mathlib.Core.Path.{_≡_};
 ghost use mathlib.Core.List.{[]};
-ghost use Prim.Native.Nat.{_-_, _*_, _^_, _≤_, _<_};
+ghost use Prim.Native.Nat.{_-_, _≤_, _<_};
 ghost use lib.ListN.{length};
 ghost use lib.Ieee.{binary64};
 ghost use Rattle.numbers.specs.NumberForm.{ieee};
 ghost use Rattle.machine.specs.Tables.{stateOf};
 ghost use Rattle.machine.specs.Updates.{withUnitRow, restored, columnDropped};
 ghost use Rattle.machine.specs.Counts.{restoredCount, columnDroppedCount};
-ghost use Rattle.storage.specs.Views.{viewL, viewU};
+ghost use Rattle.storage.specs.Views.{viewL, viewU, LRoom};
 ghost use Rattle.storage.specs.Updated.{Updated};
 ghost use Rattle.buffers.specs.Performed.{workOf, Room, Performed};
 ghost use Rattle.stages.specs.Stages.{LUpdated};
@@ -23,7 +23,7 @@ use storage::l_index;
 
 // L's row `row` becomes 0 with 1 at `column`, in the first n columns.
 pub fn set_unit_row(row: usize, column: usize, n: usize, stride: usize, l: &mut [f64])
-    requires { ⌜ (row < n) × ((column < n) × ((n ≤ stride) × ((stride < 2 ^ 32) × (stride * stride ≤ length (now l))))) ⌝ }
+    requires { ⌜ (row < n) × ((column < n) × LRoom (ieee binary64) stride n (now l)) ⌝ }
     ensures { λ _. ⌜ LUpdated (ieee binary64) stride n (withUnitRow (ieee binary64) row column) (now (l .entry)) (now (l .exit)) ⌝ }
 {
     fill(l, row * stride, n, 0.0);

@@ -4,10 +4,7 @@ ghost use Prim.Native.Nat.{_+_, _≤_, _<_};
 ghost use lib.ListN.{length};
 ghost use lib.Ieee.{binary64};
 ghost use Rattle.numbers.specs.NumberForm.{ieee};
-ghost use Rattle.numbers.specs.PairStep.{first, second};
-ghost use Rattle.machine.specs.Products.{entry};
-ghost use Rattle.ranges.specs.Written.{from, Written};
-ghost use Rattle.transforms.specs.RowsTransformed.{RowsTransformed};
+ghost use Rattle.transforms.specs.RowsTransformed.{RowsTransformed, SlicesTransformed};
 use numerics::pair::Transform;
 use numerics::pair::apply_pair;
 
@@ -63,8 +60,7 @@ pub fn transform_slices(
     transform: Transform,
 )
     requires { ⌜ (x + count ≤ length (now xs)) × (y + count ≤ length (now ys)) ⌝ }
-    ensures { λ _. ⌜ Written (ieee binary64) (from x) count (λ k. first (ieee binary64) (transform .swap) (entry (ieee binary64) (now (xs .entry)) (x + k)) (entry (ieee binary64) (now (ys .entry)) (y + k))) (now (xs .entry)) (now (xs .exit))
-        × Written (ieee binary64) (from y) count (λ k. second (ieee binary64) (transform .swap) (transform .multiplier) (entry (ieee binary64) (now (xs .entry)) (x + k)) (entry (ieee binary64) (now (ys .entry)) (y + k))) (now (ys .entry)) (now (ys .exit)) ⌝ }
+    ensures { λ _. ⌜ SlicesTransformed (ieee binary64) (transform .swap) (transform .multiplier) x y count (now (xs .entry)) (now (ys .entry)) (now (xs .exit)) (now (ys .exit)) ⌝ }
 {
     for k in 0..count {
         let mut first = xs[x + k];

@@ -5,7 +5,7 @@ use Prim.Native.Nat.{ℕ, suc, _+_, _-_, _≤_, _<_}
 use native.Mathlib.Omega.{arith}
 use borrow.Author.Tests.{lt-ltb, le-ltb}
 use Rattle.numbers.specs.NumberForm.{NumberForm}
-use Rattle.machine.specs.Products.{entry, product}
+use Rattle.machine.specs.Products.{entry}
 use Rattle.machine.specs.Updates.{putColumn, columnProduct, restored, columnReplaced}
 use Rattle.machine.specs.Calls.{replaceColumn}
 use Rattle.machine.specs.Machine.{accepted}
@@ -20,6 +20,7 @@ use Rattle.storage.specs.Updated.{UpdateFrame, CarriedOut}
 use Rattle.storage.proofs.Kept.{kept-more}
 use Rattle.storage.proofs.Frames.{frame-then, frame-middle, frame-u, frame-w}
 use Rattle.ranges.specs.Written.{Written}
+use Rattle.products.specs.LProducts.{lProduct}
 use Rattle.buffers.specs.Performed.{workOf, Performed}
 use Rattle.stages.proofs.StageLaws.{u-column-kept, column-put}
 
@@ -27,7 +28,7 @@ module _ (N : NumberForm) (E T : N .Value) where
   open NumberForm N using (Value)
 
   module _ (c n k : ℕ) (l u y z w u₁ w₁ : List Value) (hc : n ≤ c) (hk : k < n)
-      (ws : Written N (λ i. i) n (product N n (viewL N c l) (entry N z)) w w₁) (us : Written N (λ i. uIndex c i k) (k + 1) (entry N w₁) u u₁) where
+      (ws : Written N (λ i. i) n (lProduct N c n l z) w w₁) (us : Written N (λ i. uIndex c i k) (k + 1) (entry N w₁) u u₁) where
     column-start : AgreeWithin n n n n (workOf N c l u₁ y w₁) (putColumn k (columnProduct N n (viewL N c l) (viewU N c u) z))
     column-start =
         column-put N c n n n k l u y w₁ hc hk us (record { L = λ i j a b. refl; U = λ i j a b. refl; y = λ j a b. absurd (omega arith); v = λ j h. ws .value j h })

@@ -8,7 +8,7 @@ use lib.ListN.{length, set}
 use lib.Seq.{getD-set-same, getD-set-other}
 use Rattle.numbers.specs.NumberForm.{NumberForm}
 use Rattle.machine.specs.Tables.{stateOf}
-use Rattle.machine.specs.Products.{entry, product}
+use Rattle.machine.specs.Products.{entry}
 use Rattle.machine.specs.Forward.{forward}
 use Rattle.machine.specs.Updates.{withUnitRow, columnCleared, bordered, pushed}
 use Rattle.machine.specs.Calls.{push}
@@ -22,6 +22,7 @@ use Rattle.storage.specs.Updated.{CarriedOut}
 use Rattle.storage.proofs.Kept.{kept-all, kept-set, kept-then, kept-more}
 use Rattle.storage.proofs.Places.{uIndex-injective}
 use Rattle.ranges.specs.Written.{Written}
+use Rattle.products.specs.LProducts.{lProduct}
 use Rattle.buffers.specs.Performed.{workOf, Performed}
 use Rattle.stages.specs.Stages.{LUpdated}
 use Rattle.stages.proofs.StageLaws.{l-column, l-column-kept, u-column-other, u-column-kept, forward-agrees, forward-counted}
@@ -29,7 +30,7 @@ use Rattle.stages.proofs.StageLaws.{l-column, l-column-kept, u-column-other, u-
 module _ (N : NumberForm) (E T : N .Value) where
   open NumberForm N using (Value, zero as 𝟎, absent)
 
-  module _ (c n d : ℕ) (l u y z w w₁ l₁ l₂ u₁ : List Value) (hc : n ≤ c) (hn : 0 < n) (ws : Written N (λ i. i) (n - 1) (product N (n - 1) (viewL N c l) (entry N z)) w w₁)
+  module _ (c n d : ℕ) (l u y z w w₁ l₁ l₂ u₁ : List Value) (hc : n ≤ c) (hn : 0 < n) (ws : Written N (λ i. i) (n - 1) (lProduct N c (n - 1) l z) w w₁)
       (cleared : Written N (λ i. lIndex c i (n - 1)) (n - 1) (λ i. 𝟎) l l₁) (unit : LUpdated N c n (withUnitRow N (n - 1) (n - 1)) l₁ l₂)
       (us : Written N (λ i. uIndex c i (n - 1)) (n - 1) (entry N w₁) u u₁) (is-d : d ≡ uIndex c (n - 1) (n - 1)) (fits : d < length u₁) where
     border-u : (i j : ℕ) → i ≤ j → j < n → viewU N c (set u₁ d 𝟎) i j ≡ bordered N (n - 1) (viewL N c l) (viewU N c u) y z (entry N y (n - 1)) .U i j

@@ -5,7 +5,7 @@ use native.Mathlib.Omega.{arith}
 use lib.Ieee.{binary64}
 use Rattle.numbers.specs.NumberForm.{NumberForm, ieee}
 use Rattle.ranges.proofs.Writing.{sum-none, sum-more}
-use Rattle.products.specs.RowSums.{rowSum}
+use Rattle.products.specs.LProducts.{FourDots}
 use Rattle.products.proofs.four_dots.Statement.{statement}
 use Rattle.products.proofs.four_dots.Tie as tie
 
@@ -13,7 +13,7 @@ abbrev N : NumberForm
 N = ieee binary64
 
 abbrev Inv-loop : tie.InvT-loop
-Inv-loop l a b c d input start count first₀ second₀ third₀ fourth₀ k₀ first second third fourth k = (k ≤ count) × ((first ≡ rowSum N a start k l input) × ((second ≡ rowSum N b start k l input) × ((third ≡ rowSum N c start k l input) × (fourth ≡ rowSum N d start k l input))))
+Inv-loop l a b c d input start count first₀ second₀ third₀ fourth₀ k₀ first second third fourth k = (k ≤ count) × FourDots N l a b c d input start k first second third fourth
 
 abbrev μ-loop : tie.MeasureT-loop
 μ-loop l a b c d input start count first₀ second₀ third₀ fourth₀ k₀ first second third fourth k = count - k

@@ -6,14 +6,12 @@ use native.Mathlib.Omega.{arith}
 use denote.Ref.{now}
 use lib.Ieee.{binary64}
 use Rattle.numbers.specs.NumberForm.{NumberForm, ieee}
-use Rattle.machine.specs.Products.{product}
-use Rattle.storage.specs.Views.{viewL}
 use Rattle.storage.proofs.Kept.{kept-all}
 use Rattle.storage.proofs.Places.{row-before, row-fits}
 use Rattle.ranges.specs.Written.{Written}
 use Rattle.ranges.proofs.Writing.{apart, written-more}
 use Rattle.ranges.proofs.Vectors.{written-further}
-use Rattle.products.specs.RowSums.{entriesFrom}
+use Rattle.products.specs.LProducts.{lProductFrom}
 use Rattle.products.proofs.Sums.{row-product}
 use Rattle.products.proofs.l_product_from.Statement.{statement}
 use Rattle.products.proofs.l_product_from.Tie as tie
@@ -22,7 +20,7 @@ abbrev N : NumberForm
 N = ieee binary64
 
 abbrev Inv-loop : tie.InvT-loop
-Inv-loop n stride l input start output₀ done i₀ output i = (i ≤ n) × Written N (λ k. k) i (product N n (viewL N stride l) (entriesFrom N start input)) output₀ output
+Inv-loop n stride l input start output₀ done i₀ output i = (i ≤ n) × Written N (λ k. k) i (lProductFrom N stride n l input start) output₀ output
 
 abbrev μ-loop : tie.MeasureT-loop
 μ-loop n stride l input start output₀ done i₀ output i = n - i

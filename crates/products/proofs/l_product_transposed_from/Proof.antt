@@ -10,7 +10,7 @@ use Rattle.storage.proofs.Places.{row-before, row-fits}
 use Rattle.ranges.specs.Written.{Written}
 use Rattle.ranges.proofs.Writing.{sum-none}
 use Rattle.ranges.proofs.Vectors.{written-over, written-from-0}
-use Rattle.products.specs.RowSums.{entriesFrom}
+use Rattle.products.specs.LProducts.{entriesFrom}
 use Rattle.products.proofs.Sums.{rowSums, row-sums-more, row-sums-all}
 use Rattle.products.proofs.l_product_transposed_from.Statement.{statement}
 use Rattle.products.proofs.l_product_transposed_from.Tie as tie

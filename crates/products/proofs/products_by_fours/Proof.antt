@@ -3,11 +3,9 @@ use Prim.Native.Nat.{_-_, _≤_}
 use native.Mathlib.Omega.{arith}
 use lib.Ieee.{binary64}
 use Rattle.numbers.specs.NumberForm.{NumberForm, ieee}
-use Rattle.machine.specs.Products.{product}
-use Rattle.storage.specs.Views.{viewL}
 use Rattle.ranges.specs.Written.{Written}
 use Rattle.ranges.proofs.Writing.{written-none}
-use Rattle.products.specs.RowSums.{entriesFrom}
+use Rattle.products.specs.LProducts.{lProductFrom}
 use Rattle.products.proofs.Sums.{written-four}
 use Rattle.products.proofs.products_by_fours.Statement.{statement}
 use Rattle.products.proofs.products_by_fours.Tie as tie
@@ -16,7 +14,7 @@ abbrev N : NumberForm
 N = ieee binary64
 
 abbrev Inv-loop : tie.InvT-loop
-Inv-loop n stride l input start output₀ i₀ output i = (i ≤ n) × Written N (λ k. k) i (product N n (viewL N stride l) (entriesFrom N start input)) output₀ output
+Inv-loop n stride l input start output₀ i₀ output i = (i ≤ n) × Written N (λ k. k) i (lProductFrom N stride n l input start) output₀ output
 
 abbrev μ-loop : tie.MeasureT-loop
 μ-loop n stride l input start output₀ i₀ output i = n - i

@@ -1,12 +1,12 @@
 -- `add_multiple`: one entry a turn, of which the old value is still there.
 use borrow.Author.Needs.{needs}
 use mathlib.Core.Path.{_≡_}
-use Prim.Native.Nat.{_+_, _-_, _≤_}
+use Prim.Native.Nat.{_-_, _≤_}
 use native.Mathlib.Omega.{arith}
-use lib.Ieee.{binary64, add, mul}
+use lib.Ieee.{binary64}
 use Rattle.numbers.specs.NumberForm.{NumberForm, ieee}
-use Rattle.machine.specs.Products.{entry}
 use Rattle.ranges.specs.Written.{Written}
+use Rattle.ranges.specs.Sums.{multipleAdded}
 use Rattle.ranges.proofs.Writing.{written-none, written-more, apart, unwritten}
 use Rattle.ranges.proofs.add_multiple.Statement.{statement}
 use Rattle.ranges.proofs.add_multiple.Tie as tie
@@ -15,7 +15,7 @@ abbrev N : NumberForm
 N = ieee binary64
 
 abbrev Inv-loop : tie.InvT-loop
-Inv-loop target₀ source start count factor k₀ target k = (k ≤ count) × Written N (λ k. k) k (λ j. add binary64 (entry N target₀ j) (mul binary64 (entry N source (start + j)) factor)) target₀ target
+Inv-loop target₀ source start count factor k₀ target k = (k ≤ count) × Written N (λ k. k) k (multipleAdded N target₀ source start factor) target₀ target
 
 abbrev μ-loop : tie.MeasureT-loop
 μ-loop target₀ source start count factor k₀ target k = count - k

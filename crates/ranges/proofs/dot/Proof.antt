@@ -1,11 +1,11 @@
 -- `dot`: one term a turn.
 use borrow.Author.Needs.{needs}
 use mathlib.Core.Path.{_≡_}
-use Prim.Native.Nat.{_+_, _-_, _≤_}
+use Prim.Native.Nat.{_-_, _≤_}
 use native.Mathlib.Omega.{arith}
-use lib.Ieee.{binary64, mul}
+use lib.Ieee.{binary64}
 use Rattle.numbers.specs.NumberForm.{NumberForm, ieee}
-use Rattle.machine.specs.Products.{entry, sum}
+use Rattle.ranges.specs.Sums.{dotProduct}
 use Rattle.ranges.proofs.Writing.{sum-none, sum-more}
 use Rattle.ranges.proofs.dot.Statement.{statement}
 use Rattle.ranges.proofs.dot.Tie as tie
@@ -14,7 +14,7 @@ abbrev N : NumberForm
 N = ieee binary64
 
 abbrev Inv-loop : tie.InvT-loop
-Inv-loop a x b y count value₀ k₀ value k = (k ≤ count) × (value ≡ sum N k (λ j. mul binary64 (entry N a (x + j)) (entry N b (y + j))))
+Inv-loop a x b y count value₀ k₀ value k = (k ≤ count) × (value ≡ dotProduct N a x b y k)
 
 abbrev μ-loop : tie.MeasureT-loop
 μ-loop a x b y count value₀ k₀ value k = count - k

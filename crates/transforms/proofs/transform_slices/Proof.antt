@@ -1,14 +1,12 @@
 -- `transform_slices`: one pair a turn.
 use borrow.Author.Needs.{needs}
 use mathlib.Core.Path.{_≡_}
-use Prim.Native.Nat.{_+_, _-_, _≤_}
+use Prim.Native.Nat.{_-_, _≤_}
 use native.Mathlib.Omega.{arith}
 use lib.Ieee.{binary64}
 use Rattle.numbers.specs.NumberForm.{NumberForm, ieee}
-use Rattle.machine.specs.Products.{entry}
-use Rattle.numbers.specs.PairStep.{first, second}
-use Rattle.ranges.specs.Written.{from, Written}
 use Rattle.ranges.proofs.Writing.{written-none}
+use Rattle.transforms.specs.RowsTransformed.{SlicesTransformed}
 use Rattle.transforms.proofs.Pairs.{firsts-more, seconds-more}
 use Rattle.transforms.proofs.transform_slices.Statement.{statement}
 use Rattle.transforms.proofs.transform_slices.Tie as tie
@@ -17,7 +15,7 @@ abbrev N : NumberForm
 N = ieee binary64
 
 abbrev Inv-loop : tie.InvT-loop
-Inv-loop xs₀ x ys₀ y count transform k₀ xs ys k = (k ≤ count) × (Written N (from x) k (λ j. first N (transform .swap) (entry N xs₀ (x + j)) (entry N ys₀ (y + j))) xs₀ xs × Written N (from y) k (λ j. second N (transform .swap) (transform .multiplier) (entry N xs₀ (x + j)) (entry N ys₀ (y + j))) ys₀ ys)
+Inv-loop xs₀ x ys₀ y count transform k₀ xs ys k = (k ≤ count) × SlicesTransformed N (transform .swap) (transform .multiplier) x y k xs₀ ys₀ xs ys
 
 abbrev μ-loop : tie.MeasureT-loop
 μ-loop xs₀ x ys₀ y count transform k₀ xs ys k = count - k
