@@ -60,6 +60,7 @@ solveReport r b = report (answerOf (r .answer)) b 0
 
 -- ---- adoption
 
+-- the state that is handed back, or the refusal
 abbrev pub adoptionOf : Adoption → AdoptionAnswer
 adoptionOf (adoption.Adopted s) = adopted (stateOf s)
 adoptionOf (adoption.Refused r) = notAdopted (refusalOf r)

@@ -53,7 +53,7 @@ diagonal-numbered false false i = number-of (refusedAt 10 i) (omega arith)
 module _ (N : NumberForm) where
   open NumberForm N using (Value, isZero, isFinite)
 
-  pub diagonals-numbered : (U : Table Value) (n : ℕ) → Numbered (diagonals N U n)
+  diagonals-numbered : (U : Table Value) (n : ℕ) → Numbered (diagonals N U n)
   unfolding diagonals
   diagonals-numbered U zero = none-numbered
   diagonals-numbered U (suc k) = either-numbered _ _ (diagonals-numbered U k) (diagonal-numbered (isZero (U k k)) (isFinite (U k k)) k)

@@ -77,8 +77,3 @@ module _ (N : NumberForm) (E T : N .Value) where
   step-same S R c h =
       subst (λ (n : ℕ). Same (step N E T S c) (step N E T (record { n = n; L = R .L; U = R .U }) c)) (h .n)
       (step-same-at (S .n) (S .L) (S .U) (R .L) (R .U) (h .L) (h .U) c)
-
-  -- a call that is not refused
-  pub step-accepted : (S : State Value) (c : Call Value) → refusal N S c ≡ none → step N E T S c ≡ accepted N E T S c
-  unfolding step stepUnder
-  step-accepted S c e = rw e

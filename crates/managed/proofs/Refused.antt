@@ -40,7 +40,7 @@ lent-numbered update n c lent =
 module _ (N : NumberForm) where
   open NumberForm N using (Value)
 
-  pub all-numbered : (s : Instance Value) (c : Call Value) → Numbered (refusalAt N s c)
+  all-numbered : (s : Instance Value) (c : Call Value) → Numbered (refusalAt N s c)
   unfolding refusalAt
   all-numbered s c =
       either-numbered _ _ (lent-numbered (isUpdate c) (s .n) (s .c) (lengthsOf s))

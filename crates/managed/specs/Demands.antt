@@ -93,7 +93,13 @@ pub record StorageDemand1 (N : NumberForm) : Type 0 where
   pub adopted-only-if : (n c l u : ℕ) → adoptedUnder (storageTests n c l u) n c ≡ adopted (stateValue n c 0) → (n ≤ c) × (overflows c ≡ false) × (lLength c ≤ l) × (uLength c ≤ u)
   -- and otherwise gets the refusal that is the first to hold, a number above 0
   pub not-adopted : (n c l u : ℕ) (a : Answer) → storageTests n c l u ≡ some a → (adoptedUnder (storageTests n c l u) n c ≡ notAdopted a) × (0 < numberOf a)
-  -- ready answers the refusal of the storage, and otherwise yes exactly when no active diagonal is zero, infinite or NaN
-  pub ready-refused : (o : Option Answer) (a : Answer) → readyUnder (some a) o ≡ notAnswered a
-  pub ready-if : (U : Table (N .Value)) (n : ℕ) → ((i : ℕ) → i < n → badDiagonal N (U i i) i ≡ none) → readyUnder none (diagonals N U n) ≡ answered true
-  pub ready-only-if : (U : Table (N .Value)) (n : ℕ) → readyUnder none (diagonals N U n) ≡ answered true → (i : ℕ) → i < n → badDiagonal N (U i i) i ≡ none
+  -- ready answers the refusal of the storage, which is the first to hold, a number above 0
+  pub ready-refused : (n c l u : ℕ) (U : Table (N .Value)) (a : Answer) → storageTests n c l u ≡ some a
+      → (readyUnder (storageTests n c l u) (diagonals N U n) ≡ notAnswered a) × (0 < numberOf a)
+  -- and otherwise yes or no, yes exactly when no active diagonal is zero, infinite or NaN
+  pub ready-if : (n c l u : ℕ) (U : Table (N .Value)) → storageTests n c l u ≡ none → ((i : ℕ) → i < n → badDiagonal N (U i i) i ≡ none)
+      → readyUnder (storageTests n c l u) (diagonals N U n) ≡ answered true
+  pub ready-only-if : (n c l u : ℕ) (U : Table (N .Value)) → readyUnder (storageTests n c l u) (diagonals N U n) ≡ answered true
+      → (storageTests n c l u ≡ none) × ((i : ℕ) → i < n → badDiagonal N (U i i) i ≡ none)
+  pub not-ready : (n c l u : ℕ) (U : Table (N .Value)) (i : ℕ) (a : Answer) → storageTests n c l u ≡ none → i < n → badDiagonal N (U i i) i ≡ some a
+      → readyUnder (storageTests n c l u) (diagonals N U n) ≡ answered false

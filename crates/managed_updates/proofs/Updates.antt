@@ -6,7 +6,7 @@ use lib.ListN.{length}
 use Rattle.numbers.specs.NumberForm.{NumberForm}
 use Rattle.machine.specs.Calls.{Call}
 use Rattle.storage.specs.Updated.{CarriedOut}
-use Rattle.storage.proofs.Kept.{kept-all}
+use Rattle.storage.proofs.Frames.{frame-middle}
 use Rattle.buffers.specs.Performed.{Room}
 use Rattle.managed.proofs.Refusals.{StoragePassed}
 
@@ -17,6 +17,4 @@ room N m h p = record { stride = p .capacity; dimension = h; l-long = omega (ari
 -- an update that was lent its column x in place of the second workspace leaves that as it was
 pub lent-otherwise : (N : NumberForm) (E T : N .Value) {c n m k : ℕ} {call : Call (N .Value)} {l u y x z w l′ u′ y′ x′ w′ : List (N .Value)}
     → CarriedOut N E T c n m call l u y x w l′ u′ y′ x′ w′ k → CarriedOut N E T c n m call l u y z w l′ u′ y′ z w′ k
-lent-otherwise N E T d =
-    let f = d .factors .frame in
-    record { factors = record { agree = d .factors .agree; frame = record { l-kept = f .l-kept; u-kept = f .u-kept; y-kept = f .y-kept; z-kept = kept-all N; w-kept = f .w-kept } }; steps = d .steps }
+lent-otherwise N E T d = record { factors = record { agree = d .factors .agree; frame = frame-middle N (d .factors .frame) }; steps = d .steps }

@@ -22,7 +22,7 @@ module _ (N : NumberForm) where
     pub z-kept : Kept N (λ q. q < m) z z′
     pub w-kept : Kept N (λ q. q < m) w w′
 
-  -- The storage is left with the factors of R, whose dimension is at most m.
+  -- The storage is left with the factors of R, in the frame at the dimension m.
   pub record Updated (c m : ℕ) (R : State Value) (l u y z w l′ u′ y′ z′ w′ : List Value) : Type 0 where
     pub agree : Agree (stateAt N c (R .n) l′ u′) R
     pub frame : UpdateFrame c m l u y z w l′ u′ y′ z′ w′
