@@ -62,7 +62,7 @@
 #define LUMOD_OK 0u                     /* carried out */
 #define LUMOD_INVALID_DIMENSION 1u      /* n is more than the capacity */
 #define LUMOD_SIZE_OVERFLOW 2u          /* a length would exceed SIZE_MAX */
-#define LUMOD_INSUFFICIENT_STORAGE 3u   /* l or u short, or y, z, w unequal */
+#define LUMOD_INSUFFICIENT_L 3u         /* l is too short */
 #define LUMOD_CAPACITY_EXCEEDED 4u      /* a push where n is the capacity */
 #define LUMOD_ROW_OUT_OF_BOUNDS 5u      /* the row index is n or more */
 #define LUMOD_COLUMN_OUT_OF_BOUNDS 6u   /* the column index is n or more */
@@ -72,6 +72,8 @@
 #define LUMOD_NON_FINITE_DIAGONAL 10u   /* an infinity or NaN on it */
 #define LUMOD_PASSED_OVER 11u           /* n, mode or index: nothing to do */
 #define LUMOD_TOO_SMALL 12u             /* stride or buffer too small for n */
+#define LUMOD_INSUFFICIENT_U 13u        /* u is too short */
+#define LUMOD_UNEQUAL_WORKSPACES 14u    /* y, z and w of unequal length */
 
 #ifdef __cplusplus
 extern "C" {
@@ -85,15 +87,18 @@ extern "C" {
  * and returns LUMOD_OK. Two groups of tests are common to many calls. The
  * storage tests are
  *
- *     LUMOD_INVALID_DIMENSION     n is more than c.
- *     LUMOD_SIZE_OVERFLOW         c + 1 or c * (c + 1) is more than SIZE_MAX,
- *                                 which means that c is 2^32 or more.
- *     LUMOD_INSUFFICIENT_STORAGE  l_len is less than c * (c + 1), or u_len is
- *                                 less than c * (c + 1) / 2.
+ *     LUMOD_INVALID_DIMENSION   n is more than c.
+ *     LUMOD_SIZE_OVERFLOW       c + 1 or c * (c + 1) is more than SIZE_MAX,
+ *                               which means that c is 2^32 or more.
+ *     LUMOD_INSUFFICIENT_L      l_len is less than c * (c + 1).
+ *     LUMOD_INSUFFICIENT_U      u_len is less than c * (c + 1) / 2.
  *
  * and the workspace test is
  *
- *     LUMOD_INSUFFICIENT_STORAGE  y_len, z_len and w_len are not all equal.
+ *     LUMOD_UNEQUAL_WORKSPACES  y_len, z_len and w_len are not all equal.
+ *
+ * So each number names the buffer that is wrong. In the Rust the last three of
+ * these five are one error, InsufficientStorage.
  *
  * The workspaces y, z and w need no content. In the comments on lumod_push and
  * lumod_remove, n is what *n holds before the call. A scratch entry may hold

@@ -66,17 +66,17 @@ static const struct fault faults[] = {
     {"workspaces of 2", LUMOD_INSUFFICIENT_WORKSPACE, PUSHES, WORKSPACES, N},
     {"workspaces of 1", LUMOD_INSUFFICIENT_WORKSPACE, UPDATES, WORKSPACES, N - 1},
     {"workspaces of 0", LUMOD_INSUFFICIENT_WORKSPACE, UPDATES, WORKSPACES, 0},
-    {"y longer", LUMOD_INSUFFICIENT_STORAGE, UPDATES, UNEQUAL, 1},
-    {"z longer", LUMOD_INSUFFICIENT_STORAGE, UPDATES, UNEQUAL, 2},
-    {"y and z longer", LUMOD_INSUFFICIENT_STORAGE, UPDATES, UNEQUAL, 1 | 2},
-    {"w longer", LUMOD_INSUFFICIENT_STORAGE, UPDATES, UNEQUAL, 4},
-    {"y and w longer", LUMOD_INSUFFICIENT_STORAGE, UPDATES, UNEQUAL, 1 | 4},
-    {"z and w longer", LUMOD_INSUFFICIENT_STORAGE, UPDATES, UNEQUAL, 2 | 4},
-    {"l a double short", LUMOD_INSUFFICIENT_STORAGE, ALL, LENGTH + L, L_LENGTH - 1},
-    {"l without solve work", LUMOD_INSUFFICIENT_STORAGE, ALL, LENGTH + L, L_LENGTH - C},
-    {"l of 0", LUMOD_INSUFFICIENT_STORAGE, ALL, LENGTH + L, 0},
-    {"u a double short", LUMOD_INSUFFICIENT_STORAGE, ALL, LENGTH + U, U_LENGTH - 1},
-    {"u of 0", LUMOD_INSUFFICIENT_STORAGE, ALL, LENGTH + U, 0},
+    {"y longer", LUMOD_UNEQUAL_WORKSPACES, UPDATES, UNEQUAL, 1},
+    {"z longer", LUMOD_UNEQUAL_WORKSPACES, UPDATES, UNEQUAL, 2},
+    {"y and z longer", LUMOD_UNEQUAL_WORKSPACES, UPDATES, UNEQUAL, 1 | 2},
+    {"w longer", LUMOD_UNEQUAL_WORKSPACES, UPDATES, UNEQUAL, 4},
+    {"y and w longer", LUMOD_UNEQUAL_WORKSPACES, UPDATES, UNEQUAL, 1 | 4},
+    {"z and w longer", LUMOD_UNEQUAL_WORKSPACES, UPDATES, UNEQUAL, 2 | 4},
+    {"l a double short", LUMOD_INSUFFICIENT_L, ALL, LENGTH + L, L_LENGTH - 1},
+    {"l without solve work", LUMOD_INSUFFICIENT_L, ALL, LENGTH + L, L_LENGTH - C},
+    {"l of 0", LUMOD_INSUFFICIENT_L, ALL, LENGTH + L, 0},
+    {"u a double short", LUMOD_INSUFFICIENT_U, ALL, LENGTH + U, U_LENGTH - 1},
+    {"u of 0", LUMOD_INSUFFICIENT_U, ALL, LENGTH + U, 0},
     {"row n", LUMOD_ROW_OUT_OF_BOUNDS, INDEX_ROW, ROW_INDEX, 0},
     {"row n + 1", LUMOD_ROW_OUT_OF_BOUNDS, INDEX_ROW, ROW_INDEX, 1},
     {"row 2^32", LUMOD_ROW_OUT_OF_BOUNDS, INDEX_ROW, ROW_INDEX, TWO_TO_32 - N},
@@ -153,6 +153,34 @@ static void expect_refused(const char *what, struct managed c, struct memory *m,
     check_kept(what, c, m, f->number, after);
 }
 
+/* The numbers in the order in which they are tested. */
+static const uint32_t order[] = {
+    LUMOD_INVALID_DIMENSION,
+    LUMOD_SIZE_OVERFLOW,
+    LUMOD_INSUFFICIENT_L,
+    LUMOD_INSUFFICIENT_U,
+    LUMOD_UNEQUAL_WORKSPACES,
+    LUMOD_CAPACITY_EXCEEDED,
+    LUMOD_ROW_OUT_OF_BOUNDS,
+    LUMOD_COLUMN_OUT_OF_BOUNDS,
+    LUMOD_LENGTH_MISMATCH,
+    LUMOD_INSUFFICIENT_WORKSPACE,
+    LUMOD_SINGULAR,
+    LUMOD_NON_FINITE_DIAGONAL,
+};
+
+static const struct fault *tested_first(const struct fault *a, const struct fault *b) {
+    for (size_t k = 0; k < COUNT(order); k++) {
+        if (order[k] == a->number) {
+            return a;
+        }
+        if (order[k] == b->number) {
+            return b;
+        }
+    }
+    abort();
+}
+
 /* Two changes of one thing are no two faults, and n is not both c and more. */
 static int apart(const struct fault *a, const struct fault *b) {
     return a == b || (a->change != b->change && !(a->change == DIMENSION && b->change == FULL));
@@ -168,8 +196,7 @@ static void check_faults(int function, const struct fault *a, const struct fault
     if (a != b) {
         apply(b, &c, &m);
     }
-    /* Refusals are tested in the order of their numbers. */
-    expect_refused(what, c, &m, a->number < b->number ? a : b);
+    expect_refused(what, c, &m, tested_first(a, b));
 }
 
 static void one_and_two_faults(int function) {
@@ -195,10 +222,10 @@ static void extremes(int function) {
         {SIZE_MAX - 1, SIZE_MAX, LUMOD_INVALID_DIMENSION},
         {C, SIZE_MAX, LUMOD_INVALID_DIMENSION},
         {0, 1, LUMOD_INVALID_DIMENSION},
-        {TWO_TO_32 - 1, N, LUMOD_INSUFFICIENT_STORAGE},
-        {TWO_TO_32 - 1, TWO_TO_32 - 1, LUMOD_INSUFFICIENT_STORAGE},
-        {65536, N, LUMOD_INSUFFICIENT_STORAGE},
-        {C + 1, N, LUMOD_INSUFFICIENT_STORAGE},
+        {TWO_TO_32 - 1, N, LUMOD_INSUFFICIENT_L},
+        {TWO_TO_32 - 1, TWO_TO_32 - 1, LUMOD_INSUFFICIENT_L},
+        {65536, N, LUMOD_INSUFFICIENT_L},
+        {C + 1, N, LUMOD_INSUFFICIENT_L},
     };
     for (size_t k = 0; k < COUNT(rows); k++) {
         struct memory m;
@@ -218,9 +245,9 @@ static void long_buffers(void) {
         abort();
     }
     check_number("adopt", lumod_from_storage(0, length, l, length, u, length),
-                 LUMOD_INSUFFICIENT_STORAGE);
+                 LUMOD_INSUFFICIENT_L);
     check_number("ready", lumod_ready(0, length, l, length, u, length, &ready),
-                 LUMOD_INSUFFICIENT_STORAGE);
+                 LUMOD_INSUFFICIENT_L);
     check_number("*ready", ready, 7);
     free(l), free(u);
 }

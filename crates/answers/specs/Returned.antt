@@ -1,4 +1,4 @@
--- What a managed call returns to a C host: document 01's number, the outcome, and what each out-parameter holds afterwards.
+-- What a managed call returns to a C host: its answer's number, the outcome, and what each out-parameter holds afterwards.
 use mathlib.Core.Path.{_≡_}
 use mathlib.Core.List.{List}
 use Prim.Native.Nat.{ℕ}

@@ -10,14 +10,16 @@ use api::MovedRow;
 use api::RemoveAnswer;
 use refusals::Refusal;
 
-// Document 01's number of a refusal.
+// The number of a refusal in document 01's table, with those that document 02 adds.
 pub fn refusal_number(refusal: Refusal) -> u32
     ensures { λ r. ⌜ r ≡ numberOf (refusalOf refusal) ⌝ }
 {
     match refusal {
         Refusal::InvalidDimension => 1,
         Refusal::SizeOverflow => 2,
-        Refusal::InsufficientStorage => 3,
+        Refusal::InsufficientL => 3,
+        Refusal::InsufficientU => 13,
+        Refusal::UnequalWorkspaces => 14,
         Refusal::CapacityExceeded => 4,
         Refusal::RowOutOfBounds => 5,
         Refusal::ColumnOutOfBounds => 6,
@@ -28,7 +30,7 @@ pub fn refusal_number(refusal: Refusal) -> u32
     }
 }
 
-// Document 01's number of an answer.
+// The number of an answer: 0, or its refusal's.
 pub fn answer_number(answer: Answer) -> u32
     ensures { λ r. ⌜ r ≡ numberOf (answerOf answer) ⌝ }
 {
@@ -48,7 +50,9 @@ pub fn named_index(answer: Answer, old: usize) -> usize
     match refusal {
         Refusal::InvalidDimension => old,
         Refusal::SizeOverflow => old,
-        Refusal::InsufficientStorage => old,
+        Refusal::InsufficientL => old,
+        Refusal::InsufficientU => old,
+        Refusal::UnequalWorkspaces => old,
         Refusal::CapacityExceeded => old,
         Refusal::RowOutOfBounds => old,
         Refusal::ColumnOutOfBounds => old,
@@ -79,7 +83,7 @@ pub fn column_number(moved: MovedColumn) -> usize
     }
 }
 
-// Document 01's number of what remove answers.
+// The same of what remove answers.
 pub fn remove_number(answer: RemoveAnswer) -> u32
     ensures { λ r. ⌜ r ≡ numberOf (removeAnswerOf answer) ⌝ }
 {

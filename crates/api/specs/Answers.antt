@@ -1,4 +1,4 @@
--- What the functions of the managed interface hand back, in document 01's numbers and values.
+-- What the functions of the managed interface hand back, in the numbers and values of documents 01 and 02.
 use mathlib.Core.List.{List, []}
 use mathlib.Core.Option.{Option, none, some}
 use Prim.Native.Nat.{ℕ}

@@ -212,10 +212,10 @@ fn remove_result(state: LuMod, update: Update, row: usize, column: usize) -> Rem
     }
 }
 
-// Every call tests the storage that it is lent (InvalidDimension, SizeOverflow, InsufficientStorage), an update then its workspaces, which have one length
-// (InsufficientStorage), and then what its comment names, in that order. A refused call writes nothing and hands the state back as it was. An update leaves
-// the workspaces from the larger dimension on, and what lies outside the active entries, as they were. Scratch are the workspaces' entries below, and the row
-// and the column that remove drops. It hands back how many pair steps it made, added to the counter up to 999,999; a larger counter counts as that.
+// Every call tests the storage that it is lent (InvalidDimension, SizeOverflow, InsufficientL, InsufficientU), an update then its workspaces, which have one
+// length (UnequalWorkspaces), and then what its comment names, in that order. A refused call writes nothing and hands the state back as it was. An update
+// leaves the workspaces from the larger dimension on, and what lies outside the active entries, as they were. Scratch are the workspaces' entries below, and
+// the row and the column that remove drops. It hands back how many pair steps it made, added to the counter up to 999,999; a larger counter counts as that.
 impl LuMod {
     // The lengths of L and U that a capacity needs. SizeOverflow where capacity + 1 or L's length exceeds usize.
     pub fn storage_lengths(capacity: usize) -> RequiredLengths
@@ -225,7 +225,7 @@ impl LuMod {
     }
 
     // Adopts storage at a dimension and a capacity; nothing of it is read or written. InvalidDimension where the dimension exceeds the capacity,
-    // SizeOverflow where the lengths for it exceed usize, InsufficientStorage where L or U is shorter.
+    // SizeOverflow where the lengths for it exceed usize, InsufficientL where L is shorter, InsufficientU where U is.
     pub fn from_storage(dimension: usize, capacity: usize, l: &[f64], u: &[f64]) -> Adoption
         ensures { λ r. ⌜ adoptionOf r ≡ adoptedUnder (storageTests dimension capacity (length (now (l .entry))) (length (now (u .entry)))) dimension capacity ⌝ }
     {

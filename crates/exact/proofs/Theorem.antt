@@ -14,7 +14,7 @@ use Rattle.machine.specs.Products.{product}
 use Rattle.machine.specs.Calls.{Call, push, replaceRow, replaceColumn, remove, solve, solveTranspose, Answer, refused, numberOf}
 use Rattle.machine.specs.Machine.{refusal, accepted, stepUnder, step, run}
 use Rattle.machine.proofs.Refusals.{or-else-none, index-within}
-use Rattle.machine.proofs.Numbered.{refusal-numbered, accepted-is-0}
+use Rattle.machine.proofs.Numbered.{refusal-above-zero, accepted-is-0}
 use Rattle.exact.specs.Fractions.{Fraction, whole, Undefined, fractions}
 use Rattle.exact.specs.Matrix.{Matrix, updated, updatedBy, matrixOf}
 use Rattle.exact.specs.Runs.{AllAccepted, acceptedCalls, lastState, exactRun}
@@ -83,7 +83,7 @@ module _ {N : NumberForm} (Λ : ExactLaws N) where
 
     -- no update that is refused counts as accepted
     refused-kept : (c : Call Value) (a : Answer) → refusal N S c ≡ some a → numberOf a ≡ 0 → Kept S (updated N A₀ c)
-    refused-kept c a e z = let h : 0 < numberOf a = refusal-numbered N S c a e in absurd (omega (arith, z))
+    refused-kept c a e z = let h : 0 < numberOf a = refusal-above-zero N S c a e in absurd (omega (arith, z))
 
     step-kept-at : (c : Call Value) → numberOf (step N 𝟘 𝟘 S c .answer) ≡ 0 → Kept (step N 𝟘 𝟘 S c .after) (updated N A₀ c)
     unfolding step stepUnder

@@ -1,4 +1,4 @@
--- The number of every refusal is above 0, and the answer of an accepted call is 0.
+-- Which numbers a refusal can have: the machine's are 5, 6, 7, 9 and 10, so above 0. And the answer of an accepted call is 0.
 use mathlib.Core.Path.{_≡_, refl, subst}
 use mathlib.Core.Bool.{Bool, true, false, not, _&&_, cond}
 use mathlib.Core.List.{List}
@@ -14,61 +14,73 @@ use Rattle.machine.specs.Calls.{Call, push, replaceRow, replaceColumn, r
 use Rattle.machine.specs.Machine.{replacementTests, removeTests, rhsTest, refusal, accepted}
 use Rattle.machine.proofs.Refusals.{none-is-some}
 
-abbrev pub Numbered : Option Answer → Type 0
-Numbered o = (r : Answer) → o ≡ some r → 0 < numberOf r
+-- P holds of the number of every refusal that o can be
+abbrev pub Numbered : (ℕ → Type 0) → Option Answer → Type 0
+Numbered P o = (r : Answer) → o ≡ some r → P (numberOf r)
 
-pub none-numbered : Numbered none
-none-numbered r e = absurd (none-is-some refl e)
+-- a number that a refusal can have
+abbrev pub AboveZero : ℕ → Type 0
+AboveZero k = 0 < k
 
-number-of : (a : Answer) → 0 < numberOf a → Numbered (some a)
-number-of a h r e = let z : a ≡ r = cc in subst (λ (x : Answer). 0 < numberOf x) z h
+module _ (P : ℕ → Type 0) where
+  none-numbered : Numbered P none
+  none-numbered r e = absurd (none-is-some refl e)
 
-pub either-numbered : (o p : Option Answer) → Numbered o → Numbered p → Numbered (o orElse p)
-either-numbered none p h k = k
-either-numbered (some a) p h k = h
+  number-of : (a : Answer) → P (numberOf a) → Numbered P (some a)
+  number-of a h r e = let z : a ≡ r = cc in subst (λ (x : Answer). P (numberOf x)) z h
 
-answer-numbered : (b : Bool) (a : Answer) → 0 < numberOf a → Numbered (cond b (some a) none)
-answer-numbered true a h = number-of a h
-answer-numbered false a h = none-numbered
+  pub either-numbered : (o p : Option Answer) → Numbered P o → Numbered P p → Numbered P (o orElse p)
+  either-numbered none p h k = k
+  either-numbered (some a) p h k = h
 
-pub test-numbered : (b : Bool) (k : ℕ) → 0 < k → Numbered (refuseIf b k)
-test-numbered b k h = answer-numbered b (refused k) h
+  -- a part that only some calls have
+  pub when-numbered : (b : Bool) (o : Option Answer) → Numbered P o → Numbered P (cond b o none)
+  when-numbered true o h = h
+  when-numbered false o h = none-numbered
+
+  answer-numbered : (b : Bool) (a : Answer) → P (numberOf a) → Numbered P (cond b (some a) none)
+  answer-numbered b a h = when-numbered b (some a) (number-of a h)
+
+  pub test-numbered : (b : Bool) (k : ℕ) → P k → Numbered P (refuseIf b k)
+  test-numbered b k h = answer-numbered b (refused k) h
 
 -- ---- the machine's refusals
 
-length-numbered : (b : Bool) → Numbered (refuseIf b 7)
-length-numbered b = test-numbered b 7 (omega arith)
+-- The plain machine refuses with 5, 6, 7, 9 and 10: what holds of these holds of its every number.
+module _ (P : ℕ → Type 0) (five : P 5) (six : P 6) (seven : P 7) (nine : P 9) (ten : P 10) where
+  replacement-numbered : (n index : ℕ) (outside : Answer) (values : ℕ) → P (numberOf outside) → Numbered P (replacementTests n index outside values)
+  replacement-numbered n index outside values h = either-numbered P _ _ (answer-numbered P (leb n index) outside h) (test-numbered P (not (eqb values n)) 7 seven)
 
-replacement-numbered : (n index : ℕ) (outside : Answer) (values : ℕ) → 0 < numberOf outside → Numbered (replacementTests n index outside values)
-replacement-numbered n index outside values h = either-numbered _ _ (answer-numbered (leb n index) outside h) (length-numbered (not (eqb values n)))
+  remove-numbered : (n row column : ℕ) → Numbered P (removeTests n row column)
+  remove-numbered n row column = either-numbered P _ _ (test-numbered P (leb n row) 5 five) (test-numbered P (leb n column) 6 six)
 
-remove-numbered : (n row column : ℕ) → Numbered (removeTests n row column)
-remove-numbered n row column = either-numbered _ _ (test-numbered (leb n row) 5 (omega arith)) (test-numbered (leb n column) 6 (omega arith))
+  diagonal-numbered : (z f : Bool) (i : ℕ) → Numbered P (cond z (some (refusedAt 9 i)) (cond f none (some (refusedAt 10 i))))
+  diagonal-numbered true f i = number-of P (refusedAt 9 i) nine
+  diagonal-numbered false true i = none-numbered P
+  diagonal-numbered false false i = number-of P (refusedAt 10 i) ten
 
-diagonal-numbered : (z f : Bool) (i : ℕ) → Numbered (cond z (some (refusedAt 9 i)) (cond f none (some (refusedAt 10 i))))
-diagonal-numbered true f i = number-of (refusedAt 9 i) (omega arith)
-diagonal-numbered false true i = none-numbered
-diagonal-numbered false false i = number-of (refusedAt 10 i) (omega arith)
+  module _ (N : NumberForm) where
+    open NumberForm N using (Value, isZero, isFinite)
 
-module _ (N : NumberForm) where
-  open NumberForm N using (Value, isZero, isFinite)
+    diagonals-numbered : (U : Table Value) (n : ℕ) → Numbered P (diagonals N U n)
+    unfolding diagonals
+    diagonals-numbered U zero = none-numbered P
+    diagonals-numbered U (suc k) = either-numbered P _ _ (diagonals-numbered U k) (diagonal-numbered (isZero (U k k)) (isFinite (U k k)) k)
 
-  diagonals-numbered : (U : Table Value) (n : ℕ) → Numbered (diagonals N U n)
-  unfolding diagonals
-  diagonals-numbered U zero = none-numbered
-  diagonals-numbered U (suc k) = either-numbered _ _ (diagonals-numbered U k) (diagonal-numbered (isZero (U k k)) (isFinite (U k k)) k)
+    solve-numbered : (S : State Value) (b : List Value) → Numbered P (rhsTest (S .n) (length b) orElse diagonals N (S .U) (S .n))
+    solve-numbered S b = either-numbered P _ _ (test-numbered P (not (eqb (length b) (S .n))) 7 seven) (diagonals-numbered (S .U) (S .n))
 
-  solve-numbered : (S : State Value) (b : List Value) → Numbered (rhsTest (S .n) (length b) orElse diagonals N (S .U) (S .n))
-  solve-numbered S b = either-numbered _ _ (length-numbered (not (eqb (length b) (S .n)))) (diagonals-numbered (S .U) (S .n))
+    pub refusal-numbered : (S : State Value) (c : Call Value) → Numbered P (refusal N S c)
+    unfolding refusal
+    refusal-numbered S (push row column d) = test-numbered P (not (eqb (length row) (S .n) && eqb (length column) (S .n))) 7 seven
+    refusal-numbered S (replaceRow r row) = replacement-numbered (S .n) r (refused 5) (length row) five
+    refusal-numbered S (replaceColumn k column) = replacement-numbered (S .n) k (refused 6) (length column) six
+    refusal-numbered S (remove r k) = remove-numbered (S .n) r k
+    refusal-numbered S (solve b) = solve-numbered S b
+    refusal-numbered S (solveTranspose b) = solve-numbered S b
 
-  pub refusal-numbered : (S : State Value) (c : Call Value) → Numbered (refusal N S c)
-  unfolding refusal
-  refusal-numbered S (push row column d) = length-numbered (not (eqb (length row) (S .n) && eqb (length column) (S .n)))
-  refusal-numbered S (replaceRow r row) = replacement-numbered (S .n) r (refused 5) (length row) (omega arith)
-  refusal-numbered S (replaceColumn k column) = replacement-numbered (S .n) k (refused 6) (length column) (omega arith)
-  refusal-numbered S (remove r k) = remove-numbered (S .n) r k
-  refusal-numbered S (solve b) = solve-numbered S b
-  refusal-numbered S (solveTranspose b) = solve-numbered S b
+pub refusal-above-zero : (N : NumberForm) (S : State (N .Value)) (c : Call (N .Value)) → Numbered AboveZero (refusal N S c)
+refusal-above-zero = refusal-numbered AboveZero (omega arith) (omega arith) (omega arith) (omega arith) (omega arith)
 
 -- ---- an accepted call
 

@@ -9,3 +9,4 @@ pub mod ListClaim
 pub mod Writing
 pub mod Satisfiable
 pub mod Demands
+pub mod WhichBuffer

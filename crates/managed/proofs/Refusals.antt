@@ -1,6 +1,6 @@
 -- What holds where tests pass; an instance that has room refuses just what the plain machine refuses; and what an instance has that doesn't refuse a call.
 use mathlib.Core.Path.{_≡_, refl, sym, _∙_}
-use mathlib.Core.Bool.{Bool, true, false, not, _||_, cond, true≢false}
+use mathlib.Core.Bool.{Bool, true, false, not, cond, true≢false}
 use mathlib.Core.Option.{Option, none}
 use Prim.Native.Nat.{ℕ, _+_, _^_, _≤_, _<_}
 use native.Mathlib.Decide.{decLt}
@@ -20,13 +20,11 @@ use Rattle.managed.specs.Refusals.{dimensionTest, sizeTests, storageTest
 
 -- ---- the parts
 
--- two tests that both pass
-neither : {P Q : Type 0} (p q : Bool) → So (not (p || q)) → (So (not p) → P) → (So (not q) → Q) → P × Q
-neither true q t f g = absurd t
-neither false true t f g = absurd t
-neither false false t f g = (f tt, g tt)
+pub is-false : (b : Bool) → So (not b) → b ≡ false
+is-false true h = absurd h
+is-false false h = refl
 
--- a dimension, a capacity and lengths that pass 1, 2 and 3
+-- a dimension, a capacity and lengths that pass 1, 2, 3 and 13
 pub record StoragePassed (n c l u : ℕ) : Type 0 where
   pub dimension : n ≤ c
   pub size : overflows c ≡ false
@@ -39,20 +37,16 @@ unfolding dimensionTest sizeTests
 storage-passed n c l u h =
     let one = or-else-none (refuseIf (ltb c n) 1) _ h in
     let two = or-else-none (refuseIf (overflows c) 2) _ (one .1) in
-    let three = neither (ltb l (lLength c)) (ltb u (uLength c)) (refuse-if-none (ltb l (lLength c) || ltb u (uLength c)) 3 (two .1)) (nltb→le l (lLength c)) (nltb→le u (uLength c)) in
+    let three = or-else-none (refuseIf (ltb l (lLength c)) 3) _ (two .1) in
     let size = is-false (overflows c) (refuse-if-none (overflows c) 2 (two .0)) in
     record {
       dimension = nltb→le c n (refuse-if-none (ltb c n) 1 (one .0));
       size = size;
       capacity = within-usize (decLt c (2 ^ 32)) size;
-      L = three .0;
-      U = three .1;
+      L = nltb→le l (lLength c) (refuse-if-none (ltb l (lLength c)) 3 (three .0));
+      U = nltb→le u (uLength c) (refuse-if-none (ltb u (uLength c)) 13 (three .1));
     }
   where
-    is-false : (b : Bool) → So (not b) → b ≡ false
-    is-false true h = absurd h
-    is-false false h = refl
-
     within-usize : Dec (c < 2 ^ 32) → overflows c ≡ false → c < 2 ^ 32
     within-usize (yes b) k = b
     within-usize (no b) k = absurd (true≢false (sym (overflows-from c (omega (arith, b))) ∙ k))
@@ -83,7 +77,7 @@ pub update-passed : (n c : ℕ) (lent : LentLengths) (m : ℕ) → lentTests tru
 unfolding workspaceTests
 update-passed n c lent m e f =
     let first = or-else-none (storageTests n c (lent .l) (lent .u)) _ e in
-    let same = equations-hold (lent .y) (lent .z) (lent .y) (lent .w) 3 (first .1) in
+    let same = equations-hold (lent .y) (lent .z) (lent .y) (lent .w) 14 (first .1) in
     let long = nltb→le (lent .y) m (refuse-if-none (ltb (lent .y) m) 8 f) in
     record { storage = storage-passed n c (lent .l) (lent .u) (first .0); y = long; z = omega (arith, same .0); w = omega (arith, same .1) }
 

@@ -1,52 +1,61 @@
 -- What an outcome says of a refused call: the number is the first that holds, and everything stands as it was.
 use mathlib.Core.Path.{_≡_, sym, subst}
-use mathlib.Core.Bool.{Bool, true, false, not, _&&_, _||_, cond}
+use mathlib.Core.Bool.{Bool, not, _&&_, cond}
 use mathlib.Core.Option.{Option, none, some}
 use Prim.Native.Nat.{ℕ, _<_}
 use native.Mathlib.Omega.{arith}
 use lib.Dec.{ltb, eqb}
 use lib.ListN.{length}
 use Rattle.numbers.specs.NumberForm.{NumberForm}
-use Rattle.machine.specs.Calls.{Call, Answer, numberOf, given, isPush, isUpdate}
-use Rattle.machine.specs.Machine.{stepUnder}
+use Rattle.machine.specs.Calls.{Call, Answer, numberOf, _orElse_, refuseIf, given, isPush, isUpdate}
+use Rattle.machine.specs.Machine.{refusal, stepUnder}
 use Rattle.machine.specs.Agreement.{Same}
-use Rattle.machine.proofs.Numbered.{Numbered, none-numbered, either-numbered, test-numbered, refusal-numbered}
+use Rattle.machine.proofs.Numbered.{Numbered, AboveZero, either-numbered, when-numbered, test-numbered, refusal-numbered}
 use Rattle.storage.specs.Places.{lLength, uLength, overflows}
 use Rattle.managed.specs.declared.LentLengths.{LentLengths}
 use Rattle.managed.specs.Instance.{Instance, lengthsOf, view}
-use Rattle.managed.specs.Refusals.{dimensionTest, sizeTests, storageTests, workspaceTests, lentTests, reached, refusalAt}
+use Rattle.managed.specs.Refusals.{dimensionTest, sizeTests, storageTests, workspaceTests, lentTests, capacityTest, roomTest, reached, refusalAt}
 use Rattle.managed.specs.Outcome.{Report, resultOf, Outcome}
 
--- ---- a refusal's number is above 0
+-- ---- the numbers of refusals
 
-when-numbered : (b : Bool) (o : Option Answer) → Numbered o → Numbered (cond b o none)
-when-numbered true o h = h
-when-numbered false o h = none-numbered
+-- Behind the tests of what a call lends come 4 to 10: what holds of these holds of every number that is given there.
+module _ (P : ℕ → Type 0) (four : P 4) (five : P 5) (six : P 6) (seven : P 7) (eight : P 8) (nine : P 9) (ten : P 10) (N : NumberForm) where
+  open NumberForm N using (Value)
 
-pub storage-numbered : (n c l u : ℕ) → Numbered (storageTests n c l u)
+  pub behind-numbered : (s : Instance Value) (c : Call Value)
+      → Numbered P (cond (isPush c) (capacityTest (s .n) (s .c)) none orElse refusal N (view N s) c orElse cond (isUpdate c) (roomTest (reached s c) (length (s .y))) none)
+  behind-numbered s c =
+      either-numbered P _ _ (when-numbered P (isPush c) _ (test-numbered P (eqb (s .n) (s .c)) 4 four))
+      (either-numbered P _ _ (refusal-numbered P five six seven nine ten N (view N s) c)
+      (when-numbered P (isUpdate c) _ (test-numbered P (ltb (length (s .y)) (reached s c)) 8 eight)))
+
+test-above-zero : (b : Bool) (k : ℕ) → 0 < k → Numbered AboveZero (refuseIf b k)
+test-above-zero = test-numbered AboveZero
+
+pub storage-numbered : (n c l u : ℕ) → Numbered AboveZero (storageTests n c l u)
 unfolding dimensionTest sizeTests
 storage-numbered n c l u =
-    either-numbered _ _ (test-numbered (ltb c n) 1 (omega arith))
-    (either-numbered _ _ (test-numbered (overflows c) 2 (omega arith)) (test-numbered (ltb l (lLength c) || ltb u (uLength c)) 3 (omega arith)))
+    either-numbered AboveZero _ _ (test-above-zero (ltb c n) 1 (omega arith))
+    (either-numbered AboveZero _ _ (test-above-zero (overflows c) 2 (omega arith))
+    (either-numbered AboveZero _ _ (test-above-zero (ltb l (lLength c)) 3 (omega arith)) (test-above-zero (ltb u (uLength c)) 13 (omega arith))))
 
-workspaces-numbered : (y z w : ℕ) → Numbered (workspaceTests y z w)
+workspaces-numbered : (y z w : ℕ) → Numbered AboveZero (workspaceTests y z w)
 unfolding workspaceTests
-workspaces-numbered y z w = test-numbered (not (eqb y z && eqb y w)) 3 (omega arith)
+workspaces-numbered y z w = test-above-zero (not (eqb y z && eqb y w)) 14 (omega arith)
 
-lent-numbered : (update : Bool) (n c : ℕ) (lent : LentLengths) → Numbered (lentTests update n c lent)
+lent-numbered : (update : Bool) (n c : ℕ) (lent : LentLengths) → Numbered AboveZero (lentTests update n c lent)
 lent-numbered update n c lent =
-    either-numbered _ _ (storage-numbered n c (lent .l) (lent .u)) (when-numbered update _ (workspaces-numbered (lent .y) (lent .z) (lent .w)))
+    either-numbered AboveZero _ _ (storage-numbered n c (lent .l) (lent .u)) (when-numbered AboveZero update _ (workspaces-numbered (lent .y) (lent .z) (lent .w)))
 
 module _ (N : NumberForm) where
   open NumberForm N using (Value)
 
-  all-numbered : (s : Instance Value) (c : Call Value) → Numbered (refusalAt N s c)
+  all-numbered : (s : Instance Value) (c : Call Value) → Numbered AboveZero (refusalAt N s c)
   unfolding refusalAt
   all-numbered s c =
-      either-numbered _ _ (lent-numbered (isUpdate c) (s .n) (s .c) (lengthsOf s))
-      (either-numbered _ _ (when-numbered (isPush c) _ (test-numbered (eqb (s .n) (s .c)) 4 (omega arith)))
-      (either-numbered _ _ (refusal-numbered N (view N s) c)
-      (when-numbered (isUpdate c) _ (test-numbered (ltb (length (s .y)) (reached s c)) 8 (omega arith)))))
+      either-numbered AboveZero _ _ (lent-numbered (isUpdate c) (s .n) (s .c) (lengthsOf s))
+      (behind-numbered AboveZero (omega arith) (omega arith) (omega arith) (omega arith) (omega arith) (omega arith) (omega arith) N s c)
 
 -- ---- the outcome
 

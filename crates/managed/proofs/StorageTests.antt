@@ -1,9 +1,8 @@
 -- The tests of storage, one law for each way through them.
 use mathlib.Core.Path.{_≡_}
-use mathlib.Core.Bool.{true, false, or-true}
+use mathlib.Core.Bool.{true, false}
 use mathlib.Core.Option.{none, some}
 use Prim.Native.Nat.{ℕ, _≤_, _<_}
-use lib.Dec.{ltb}
 use borrow.Author.Tests.{lt-ltb, le-ltb}
 use Rattle.machine.specs.Calls.{refused}
 use Rattle.storage.specs.Places.{lLength, uLength, overflows}
@@ -19,9 +18,9 @@ module _ (c l u : ℕ) where
     unfolding sizeTests
     short-L h = rw (ho, lt-ltb l (lLength c) h)
 
-    pub short-U : u < uLength c → some (refused 3) ≡ sizeTests c l u
+    pub short-U : lLength c ≤ l → u < uLength c → some (refused 13) ≡ sizeTests c l u
     unfolding sizeTests
-    short-U h = rw (ho, lt-ltb u (uLength c) h, or-true (ltb l (lLength c)))
+    short-U h k = rw (ho, le-ltb l (lLength c) h, lt-ltb u (uLength c) k)
 
     pub sizes-pass : lLength c ≤ l → uLength c ≤ u → none ≡ sizeTests c l u
     unfolding sizeTests

@@ -4,4 +4,5 @@ pub mod StorageAnswers
 pub mod Outcome
 pub mod Lists
 pub mod Demands
+pub mod WhichBuffer
 pub mod BenchTable

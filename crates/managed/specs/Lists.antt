@@ -47,8 +47,8 @@ module _ (N : NumberForm) (E T : N .Value) where
   open NumberForm N using (Value)
 
   -- The call c of an instance that stays at one capacity, where `room` is the starting dimension plus the pushes in the list. It gets the dimension, active
-  -- factors and counter of S, as the call before left them, and lends storage and workspaces that pass refusals 1 to 3. What else its memory holds, and how
-  -- long its buffers are beyond that, is free.
+  -- factors and counter of S, as the call before left them, and lends storage and workspaces that pass refusals 1 to 3, 13 and 14. What else its memory holds,
+  -- and how long its buffers are beyond that, is free.
   pub record Happens (capacity room : ℕ) (S : CountedState Value) (c : Call Value) (e : Event Value) : Type 0 where
     pub resumes : AgreeCounted S (viewCounted N (e .before))
     pub at-capacity : e .before .c ≡ capacity

@@ -1,7 +1,7 @@
--- The refusals of the managed calls, 1 to 10, in document 01's order. Below stand computed lines for that order, one for each two conditions that follow
--- one another and can hold at once.
+-- The refusals of the managed calls, document 01's 1 to 10 and document 02's 13 and 14, in their order. Below stand computed lines for that order, one for each
+-- two conditions that follow one another and can hold at once.
 use mathlib.Core.Path.{_≡_, refl}
-use mathlib.Core.Bool.{Bool, true, false, not, _&&_, _||_, cond}
+use mathlib.Core.Bool.{Bool, true, false, not, _&&_, cond}
 use mathlib.Core.List.{List, [], _∷_}
 use mathlib.Core.Option.{Option, none, some}
 use Prim.Native.Nat.{ℕ, _+_, _^_}
@@ -22,21 +22,25 @@ use Rattle.managed.specs.Instance.{Instance, lengthsOf, view}
 unfoldable pub dimensionTest : ℕ → ℕ → Option Answer
 dimensionTest n c = refuseIf (ltb c n) 1
 
--- 2: c + 1 or c × (c + 1) exceeds usize. 3: L or U too short
+-- 2: c + 1 or c × (c + 1) exceeds usize. 3: L too short. 13: U too short, tested right after L
 unfoldable pub sizeTests : ℕ → ℕ → ℕ → Option Answer
-sizeTests c l u = refuseIf (overflows c) 2 orElse refuseIf (ltb l (lLength c) || ltb u (uLength c)) 3
+sizeTests c l u = refuseIf (overflows c) 2 orElse refuseIf (ltb l (lLength c)) 3 orElse refuseIf (ltb u (uLength c)) 13
 
--- storage
+-- storage: 1, 2, 3, 13
 abbrev pub storageTests : ℕ → ℕ → ℕ → ℕ → Option Answer
 storageTests n c l u = dimensionTest n c orElse sizeTests c l u
 
--- 3: workspaces of unequal length
+-- 14: workspaces of unequal length
 unfoldable pub workspaceTests : ℕ → ℕ → ℕ → Option Answer
-workspaceTests y z w = refuseIf (not (eqb y z && eqb y w)) 3
+workspaceTests y z w = refuseIf (not (eqb y z && eqb y w)) 14
 
--- Every managed call lends its storage and tests 1, 2, 3 (storage), then, where it lends workspaces (all updates, no solve), 3 for them.
+-- Every managed call lends its storage and tests 1, 2, 3, 13 (storage), then, where it lends workspaces (all updates, no solve), 14 for them.
 abbrev pub lentTests : Bool → ℕ → ℕ → LentLengths → Option Answer
 lentTests update n c lent = storageTests n c (lent .l) (lent .u) orElse cond update (workspaceTests (lent .y) (lent .z) (lent .w)) none
+
+-- the lengths where no workspaces are lent
+abbrev pub storageAlone : ℕ → ℕ → LentLengths
+storageAlone l u = record { l = l; u = u; y = 0; z = 0; w = 0 }
 
 -- 4: a push at n = c
 abbrev pub capacityTest : ℕ → ℕ → Option Answer
@@ -58,7 +62,7 @@ updateTests n c lent capacity indices m = inOrder (lentTests true n c lent) capa
 
 -- of a solve, which is lent L and U alone
 abbrev pub solveTests : ℕ → ℕ → ℕ → ℕ → Option Answer → Option Answer
-solveTests n c l u indices = inOrder (lentTests false n c (record { l = l; u = u; y = 0; z = 0; w = 0 })) none indices none
+solveTests n c l u indices = inOrder (lentTests false n c (storageAlone l u)) none indices none
 
 module _ {A : Type 0} where
   -- what the call c is lent, tested
@@ -123,21 +127,30 @@ one : List Float
 one = whole 1 ∷ []
 
 pub record RefusalOrder : Type 0 where
-  -- 1, 2, 3 and 3 for the workspaces
+  -- adoption and ready: 1, 2, 3, 13
+  storage-one-before-two : storageTests (2 ^ 32 + 1) (2 ^ 32) 0 0 ≡ some (refused 1)
+  storage-two-before-three : storageTests 0 (2 ^ 32) 0 0 ≡ some (refused 2)
+  storage-three-before-thirteen : storageTests 1 2 5 2 ≡ some (refused 3)
+  storage-thirteen : storageTests 1 2 6 2 ≡ some (refused 13)
+  storage-passed : storageTests 1 2 6 3 ≡ none
+  -- the six calls: 1, 2, 3, 13 and, for the workspaces, 14
   one-before-two : refuses (lent nan (2 ^ 32 + 1) (2 ^ 32) 0 0 0 0 0) (solve []) ≡ some (refused 1)
   two-before-three : refuses (lent nan 0 (2 ^ 32) 0 0 0 0 0) (solve []) ≡ some (refused 2)
   short-L : refuses (lent (whole 1) 1 2 5 3 2 2 2) (push one one (whole 1)) ≡ some (refused 3)
-  short-U : refuses (lent (whole 1) 1 2 6 2 2 2 2) (push one one (whole 1)) ≡ some (refused 3)
-  unequal-z : refuses (lent (whole 1) 1 2 6 3 2 1 2) (push one one (whole 1)) ≡ some (refused 3)
-  unequal-w : refuses (lent (whole 1) 1 2 6 3 2 2 3) (push one one (whole 1)) ≡ some (refused 3)
+  three-before-thirteen : refuses (lent (whole 1) 1 2 5 2 2 2 2) (push one one (whole 1)) ≡ some (refused 3)
+  short-U : refuses (lent (whole 1) 1 2 6 2 2 2 2) (push one one (whole 1)) ≡ some (refused 13)
+  thirteen-before-fourteen : refuses (lent (whole 1) 1 2 6 2 2 1 2) (push one one (whole 1)) ≡ some (refused 13)
+  unequal-z : refuses (lent (whole 1) 1 2 6 3 2 1 2) (push one one (whole 1)) ≡ some (refused 14)
+  unequal-w : refuses (lent (whole 1) 1 2 6 3 2 2 3) (push one one (whole 1)) ≡ some (refused 14)
   -- push: 4, 7, 8
-  three-before-four : refuses (lent (whole 1) 1 1 2 1 2 1 2) (push one one (whole 1)) ≡ some (refused 3)
+  fourteen-before-four : refuses (lent (whole 1) 1 1 2 1 2 1 2) (push one one (whole 1)) ≡ some (refused 14)
   four-before-seven : refuses full (push [] one (whole 1)) ≡ some (refused 4)
   push-seven-before-eight : refuses narrow (push one [] (whole 1)) ≡ some (refused 7)
   push-eight : refuses narrow (push one one (whole 1)) ≡ some (refused 8)
   push-accepted : refuses sound (push one one (whole 1)) ≡ none
   -- replace row: 5, 7, 8
-  row-three-before-five : refuses (lent (whole 1) 1 2 6 3 2 1 2) (replaceRow 1 []) ≡ some (refused 3)
+  row-thirteen-before-fourteen : refuses (lent (whole 1) 1 2 6 2 2 1 2) (replaceRow 1 []) ≡ some (refused 13)
+  row-fourteen-before-five : refuses (lent (whole 1) 1 2 6 3 2 1 2) (replaceRow 1 []) ≡ some (refused 14)
   row-five-before-seven : refuses bare (replaceRow 1 []) ≡ some (refused 5)
   row-seven-before-eight : refuses bare (replaceRow 0 []) ≡ some (refused 7)
   row-eight : refuses bare (replaceRow 0 one) ≡ some (refused 8)
@@ -145,61 +158,84 @@ pub record RefusalOrder : Type 0 where
   -- 4 is for a push alone
   row-at-capacity : refuses full (replaceRow 0 one) ≡ none
   -- replace column: 6, 7, 8
-  column-three-before-six : refuses (lent (whole 1) 1 2 6 3 2 1 2) (replaceColumn 1 []) ≡ some (refused 3)
+  column-thirteen-before-fourteen : refuses (lent (whole 1) 1 2 6 2 2 1 2) (replaceColumn 1 []) ≡ some (refused 13)
+  column-fourteen-before-six : refuses (lent (whole 1) 1 2 6 3 2 1 2) (replaceColumn 1 []) ≡ some (refused 14)
   column-six-before-seven : refuses bare (replaceColumn 1 []) ≡ some (refused 6)
   column-seven-before-eight : refuses bare (replaceColumn 0 []) ≡ some (refused 7)
   column-eight : refuses bare (replaceColumn 0 one) ≡ some (refused 8)
   column-accepted : refuses narrow (replaceColumn 0 one) ≡ none
   -- remove: 5, 6, 8
-  remove-three-before-five : refuses (lent (whole 1) 1 2 6 3 2 1 2) (remove 1 1) ≡ some (refused 3)
+  remove-thirteen-before-fourteen : refuses (lent (whole 1) 1 2 6 2 2 1 2) (remove 1 1) ≡ some (refused 13)
+  remove-fourteen-before-five : refuses (lent (whole 1) 1 2 6 3 2 1 2) (remove 1 1) ≡ some (refused 14)
   remove-five-before-six : refuses bare (remove 1 1) ≡ some (refused 5)
   remove-six-before-eight : refuses bare (remove 0 1) ≡ some (refused 6)
   remove-eight : refuses bare (remove 0 0) ≡ some (refused 8)
   remove-accepted : refuses narrow (remove 0 0) ≡ none
   -- solves: 7, then the diagonal; they lend no workspaces
+  solve-three-before-thirteen : refuses (lent (whole 1) 1 2 5 2 0 0 0) (solve []) ≡ some (refused 3)
   solve-three-before-seven : refuses (lent (whole 1) 1 2 5 3 0 0 0) (solve []) ≡ some (refused 3)
+  solve-thirteen-before-seven : refuses (lent (whole 1) 1 2 6 2 0 0 0) (solve []) ≡ some (refused 13)
   solve-seven-before-nine : refuses (lent (whole 0) 1 2 6 3 0 0 0) (solve []) ≡ some (refused 7)
   solve-nine : refuses (lent (whole 0) 1 2 6 3 0 0 0) (solve one) ≡ some (refusedAt 9 0)
+  transpose-three-before-thirteen : refuses (lent (whole 1) 1 2 5 2 0 0 0) (solveTranspose []) ≡ some (refused 3)
   transpose-three-before-seven : refuses (lent (whole 1) 1 2 5 3 0 0 0) (solveTranspose []) ≡ some (refused 3)
+  transpose-thirteen-before-seven : refuses (lent (whole 1) 1 2 6 2 0 0 0) (solveTranspose []) ≡ some (refused 13)
   transpose-seven-before-ten : refuses (lent nan 1 2 6 3 0 0 0) (solveTranspose []) ≡ some (refused 7)
   transpose-ten : refuses (lent nan 1 2 6 3 0 0 0) (solveTranspose one) ≡ some (refusedAt 10 0)
+  -- 14 is for an update alone
   solve-accepted : refuses (lent (whole 1) 1 2 6 3 0 1 2) (solve one) ≡ none
+  transpose-accepted : refuses (lent (whole 1) 1 2 6 3 0 1 2) (solveTranspose one) ≡ none
 
 pub refusalOrder : RefusalOrder
 unfolding refuses refusalAt dimensionTest sizeTests workspaceTests refusal diagonals overflows uIndex lent sound narrow bare full one nearest eq ofBits
 refusalOrder = record {
+  storage-one-before-two = refl;
+  storage-two-before-three = refl;
+  storage-three-before-thirteen = refl;
+  storage-thirteen = refl;
+  storage-passed = refl;
   one-before-two = refl;
   two-before-three = refl;
   short-L = refl;
+  three-before-thirteen = refl;
   short-U = refl;
+  thirteen-before-fourteen = refl;
   unequal-z = refl;
   unequal-w = refl;
-  three-before-four = refl;
+  fourteen-before-four = refl;
   four-before-seven = refl;
   push-seven-before-eight = refl;
   push-eight = refl;
   push-accepted = refl;
-  row-three-before-five = refl;
+  row-thirteen-before-fourteen = refl;
+  row-fourteen-before-five = refl;
   row-five-before-seven = refl;
   row-seven-before-eight = refl;
   row-eight = refl;
   row-accepted = refl;
   row-at-capacity = refl;
-  column-three-before-six = refl;
+  column-thirteen-before-fourteen = refl;
+  column-fourteen-before-six = refl;
   column-six-before-seven = refl;
   column-seven-before-eight = refl;
   column-eight = refl;
   column-accepted = refl;
-  remove-three-before-five = refl;
+  remove-thirteen-before-fourteen = refl;
+  remove-fourteen-before-five = refl;
   remove-five-before-six = refl;
   remove-six-before-eight = refl;
   remove-eight = refl;
   remove-accepted = refl;
+  solve-three-before-thirteen = refl;
   solve-three-before-seven = refl;
+  solve-thirteen-before-seven = refl;
   solve-seven-before-nine = refl;
   solve-nine = refl;
+  transpose-three-before-thirteen = refl;
   transpose-three-before-seven = refl;
+  transpose-thirteen-before-seven = refl;
   transpose-seven-before-ten = refl;
   transpose-ten = refl;
   solve-accepted = refl;
+  transpose-accepted = refl;
 }

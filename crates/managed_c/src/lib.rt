@@ -1,5 +1,5 @@
 // The managed calls for a C host that change no factor: lengths, adoption, ready and the solves. The state is a dimension and a capacity, handed over as numbers.
-// Each returns document 01's number, 0 for success.
+// Each returns its refusal's number, 0 for success.
 ghost use mathlib.Core.Path.{_≡_};
 ghost use lib.ListN.{length};
 ghost use lib.Ieee.{binary64};

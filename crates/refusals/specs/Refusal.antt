@@ -1,4 +1,4 @@
--- What the tests of the managed calls answer, in document 01's numbers.
+-- What the tests of the managed calls answer, in the numbers of documents 01 and 02.
 use mathlib.Core.Option.{Option, none, some}
 use Rattle.machine.specs.Calls.{Answer, done, refused, refusedAt}
 use Rattle.refusals.specs.declared.Refusal.{Refusal}
@@ -6,11 +6,13 @@ use Rattle.refusals.specs.declared.Refusal.the-variants as refusal
 use Rattle.refusals.specs.declared.Test.{Test}
 use Rattle.refusals.specs.declared.Test.the-variants as test
 
--- document 01's number, and index, for each case of `Refusal`
+-- the number, and index, for each case of `Refusal`
 abbrev pub refusalOf : Refusal → Answer
 refusalOf refusal.InvalidDimension = refused 1
 refusalOf refusal.SizeOverflow = refused 2
-refusalOf refusal.InsufficientStorage = refused 3
+refusalOf refusal.InsufficientL = refused 3
+refusalOf refusal.InsufficientU = refused 13
+refusalOf refusal.UnequalWorkspaces = refused 14
 refusalOf refusal.CapacityExceeded = refused 4
 refusalOf refusal.RowOutOfBounds = refused 5
 refusalOf refusal.ColumnOutOfBounds = refused 6

@@ -1,4 +1,4 @@
-// The tests of the managed calls, each in document 01's order. A test only reads.
+// The tests of the managed calls, each in the order of documents 01 and 02. A test only reads.
 ghost use mathlib.Core.Path.{_≡_};
 ghost use mathlib.Core.Bool.{true};
 ghost use mathlib.Core.Option.{none};
@@ -18,11 +18,14 @@ use managed::LentLengths;
 use storage::RequiredLengths;
 use storage::storage_lengths;
 
-// Why a managed call is refused: document 01's 1 to 10, in its order.
+// Why a managed call is refused: document 01's 1 to 10 with document 02's 13 and 14, in the order in which they are tested. The Rust's InsufficientStorage
+// is three of them: InsufficientL, InsufficientU and UnequalWorkspaces.
 pub enum Refusal {
     InvalidDimension,
     SizeOverflow,
-    InsufficientStorage,
+    InsufficientL,
+    InsufficientU,
+    UnequalWorkspaces,
     CapacityExceeded,
     RowOutOfBounds,
     ColumnOutOfBounds,
@@ -38,7 +41,7 @@ pub enum Test {
     Refused(Refusal),
 }
 
-// 2 and 3 for a capacity and the lengths of L and U.
+// 2 for a capacity, 3 for the length of L and 13 for that of U.
 pub fn test_sizes(capacity: usize, l: usize, u: usize) -> Test
     ensures { λ r. ⌜ testOf r ≡ sizeTests capacity l u ⌝ }
 {
@@ -47,15 +50,15 @@ pub fn test_sizes(capacity: usize, l: usize, u: usize) -> Test
         return Test::Refused(Refusal::SizeOverflow);
     };
     if l < lengths.l {
-        return Test::Refused(Refusal::InsufficientStorage);
+        return Test::Refused(Refusal::InsufficientL);
     }
     if u < lengths.u {
-        return Test::Refused(Refusal::InsufficientStorage);
+        return Test::Refused(Refusal::InsufficientU);
     }
     Test::Passed
 }
 
-// 1 for the dimension, then 2 and 3.
+// 1 for the dimension, then 2, 3 and 13.
 pub fn test_storage(n: usize, capacity: usize, l: usize, u: usize) -> Test
     ensures { λ r. ⌜ testOf r ≡ storageTests n capacity l u ⌝ }
 {
@@ -65,7 +68,7 @@ pub fn test_storage(n: usize, capacity: usize, l: usize, u: usize) -> Test
     test_sizes(capacity, l, u)
 }
 
-// What an update lends: 1, 2 and 3 for its storage, then 3 for its workspaces.
+// What an update lends: 1, 2, 3 and 13 for its storage, then 14 for its workspaces.
 fn test_lent(n: usize, capacity: usize, lent: LentLengths) -> Test
     ensures { λ r. ⌜ testOf r ≡ lentTests true n capacity lent ⌝ }
 {
@@ -74,10 +77,10 @@ fn test_lent(n: usize, capacity: usize, lent: LentLengths) -> Test
         return storage;
     };
     if lent.y != lent.z {
-        return Test::Refused(Refusal::InsufficientStorage);
+        return Test::Refused(Refusal::UnequalWorkspaces);
     }
     if lent.y != lent.w {
-        return Test::Refused(Refusal::InsufficientStorage);
+        return Test::Refused(Refusal::UnequalWorkspaces);
     }
     Test::Passed
 }
@@ -165,14 +168,14 @@ pub fn test_diagonals(n: usize, capacity: usize, u: &[f64]) -> Test
     }
 }
 
-// Both solves, with the lengths of L and of the right-hand side: 1, 2, 3, 7, then the diagonal upward.
+// Both solves, with the lengths of L and of the right-hand side: 1, 2, 3, 13, 7, then the diagonal upward.
 pub fn test_solve(n: usize, capacity: usize, l: usize, u: &[f64], rhs: usize) -> Test
     ensures { λ r. ⌜ testOf r ≡ solveTests n capacity l (length (now (u .entry)))
         (rhsTest n rhs orElse diagonals (ieee binary64) (viewU (ieee binary64) capacity (now (u .entry))) n) ⌝ }
 {
-    let storage = test_storage(n, capacity, l, u.len());
-    let Test::Passed = storage else {
-        return storage;
+    let test = test_storage(n, capacity, l, u.len());
+    let Test::Passed = test else {
+        return test;
     };
     if rhs != n {
         return Test::Refused(Refusal::LengthMismatch);

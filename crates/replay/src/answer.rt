@@ -1,4 +1,4 @@
-// Answers of the managed calls as document 01's numbers.
+// Answers of the managed calls as numbers.
 use answers::column_number;
 use answers::named_index;
 use answers::refusal_number;
@@ -16,7 +16,7 @@ use refusals::Refusal;
 // What stands for no index, no moved row and no moved column.
 const NOTHING: usize = 0xFFFF_FFFF_FFFF_FFFF;
 
-// What a call answers: document 01's number, the state that it hands back, the index that a refused solve names, what remove moved, and how many pair steps
+// What a call answers: 0 or its refusal's number, the state that it hands back, the index that a refused solve names, what remove moved, and how many pair steps
 // an update made. A sample has no pair steps: they are added up and not compared.
 pub struct Answered {
     pub number: usize,

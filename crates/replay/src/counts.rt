@@ -3,12 +3,12 @@ use crate::print::number;
 use crate::print::size;
 use crate::print::text;
 
-// How many calls there were, how many pair steps and differences, and how many answers of each number.
+// How many calls there were, how many pair steps and differences, and how many answers of each number up to 14.
 pub struct Counts {
     pub calls: u64,
     pub steps: u64,
     pub differences: u64,
-    pub answers: [u64; 11],
+    pub answers: [u64; 15],
 }
 
 fn more(n: u64) -> u64 {
@@ -20,7 +20,7 @@ pub fn count(before: Counts, number: usize, steps: usize) -> Counts {
     let mut counts = before;
     counts.calls = more(counts.calls);
     counts.steps = std::num::wrapping_add_u64(counts.steps, steps as u64);
-    if number < 11 {
+    if number < 15 {
         counts.answers[number] = more(counts.answers[number]);
     }
     counts
@@ -44,7 +44,7 @@ pub fn note(list: usize, call: usize, differs: bool, what: &[u8], before: Counts
     counts
 }
 
-// How often each refusal was given.
+// How often each refusal from 1 to 10 was given.
 fn refusals(counts: Counts) {
     for i in 1..11 {
         text(b" ");
@@ -59,8 +59,12 @@ pub fn summary(lists: usize, counts: Counts) {
     number(counts.calls);
     text(b" calls, ");
     number(counts.steps);
-    text(b" pair steps, refusals 1 to 10:");
+    text(b" pair steps, refusals 1 to 10, 13 and 14:");
     refusals(counts);
+    text(b" ");
+    number(counts.answers[13]);
+    text(b" ");
+    number(counts.answers[14]);
     text(b", ");
     number(counts.differences);
     text(b" differences\n");

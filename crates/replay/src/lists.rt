@@ -22,6 +22,7 @@ use crate::records::Record;
 use crate::records::advance;
 use crate::records::read_record;
 use crate::records::start_of;
+use crate::records::told_apart;
 use crate::sample::after;
 use crate::sample::check_word;
 use crate::sample::size;
@@ -132,7 +133,7 @@ fn replay_call(data: &[u8], list: usize, call: usize, capacity: usize, before: S
         list,
         call,
         capacity,
-        record.expected,
+        told_apart(record),
         next,
         outcome,
         before.counts,
@@ -193,7 +194,7 @@ fn replay_lists(data: &[u8], lists: usize) -> Replayed {
         calls: 0,
         steps: 0,
         differences: 0,
-        answers: [0; 11],
+        answers: [0; 15],
     };
     let mut i = 0;
     while i < lists {

@@ -87,6 +87,33 @@ pub fn read_record(data: &[u8], at: usize) -> Record {
     }
 }
 
+// Which buffer a call lends wrongly whose storage or workspaces the Rust refuses, by document 02's order: 3 for L, then 13 for U, then 14 for the workspaces.
+// Beyond the largest capacity no L that a sample can lend is long enough.
+fn wrong_buffer(call: Call) -> usize {
+    let capacity = call.capacity;
+    if capacity > LARGEST_CAPACITY {
+        return 3;
+    }
+    let needed = capacity * (capacity + 1);
+    if call.l < needed {
+        return 3;
+    }
+    if call.u < needed / 2 {
+        return 13;
+    }
+    14
+}
+
+// The answer that is expected: the stored one, where the Rust's InsufficientStorage is 3, told apart.
+pub fn told_apart(record: Record) -> Answered {
+    let call = record.call;
+    let mut expected = record.expected;
+    if expected.number == 3 {
+        expected.number = wrong_buffer(call);
+    }
+    expected
+}
+
 // Whether a record has a function and an answer that a sample can have.
 fn is_sound(call: Call, answer: Answered, capacity: usize) -> bool {
     if call.function == 0 {

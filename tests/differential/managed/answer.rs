@@ -2,7 +2,7 @@
 
 use super::call::{Call, Function, Instance};
 use super::counter;
-use super::refusals::{bad_diagonal, lengths, number};
+use super::refusals::{bad_diagonal, lengths, number, published_number};
 use crate::random::Random;
 
 /// All outputs that any call has besides its buffers, one beside the other. A
@@ -75,8 +75,8 @@ pub struct Answer {
 }
 
 impl Answer {
-    /// Document 01's answer to a call whose outputs held `outputs`. The counter and
-    /// the pair steps are left as they were, as they are by the Rust.
+    /// The answer of documents 01 and 02 to a call whose outputs held `outputs`. The
+    /// counter and the pair steps are left as they were, as they are by the Rust.
     pub fn of_document(call: &Call, before: &Instance, outputs: Outputs) -> Self {
         let number = number(call, before);
         let mut outputs = outputs.of(before);
@@ -86,6 +86,24 @@ impl Answer {
             _ => {}
         }
         Self { number, outputs }
+    }
+
+    /// The same as the Rust gives it, which has one name for 3, 13 and 14.
+    pub fn published(self) -> Self {
+        Self {
+            number: published_number(self.number),
+            ..self
+        }
+    }
+
+    /// The Rust's answer with the number that the documents have for its name.
+    pub fn finer(self, call: &Call, before: &Instance) -> Self {
+        let number = number(call, before);
+        if published_number(number) == self.number {
+            Self { number, ..self }
+        } else {
+            self
+        }
     }
 
     /// The same with the counter and the number that an update leaves after so many

@@ -64,12 +64,13 @@ impl Comparison {
         let outputs = Outputs::any(random);
         let Sides { rust, archive } = sides;
         let before = rust.clone();
-        let Some(answer) = call_rust(call, rust, outputs) else {
+        let Some(published) = call_rust(call, rust, outputs) else {
             return Err(self.report(call, &before, "the Rust panicked"));
         };
+        let answer = published.finer(call, &before);
         let expected = Expected::new(call, &before, answer, rust);
         for instance in archive.iter().chain([&before]) {
-            self.check_document(call, instance, outputs, answer)?;
+            self.check_document(call, instance, outputs, answer, published)?;
         }
         self.check(call, &before, &expected, ("the Rust", answer, rust))?;
         let answer = self.count(call, &before, &expected)?;
@@ -151,21 +152,28 @@ impl Comparison {
         Ok(plain)
     }
 
-    /// The Rust's answer must be document 01's, in every instance.
+    /// What is expected must be the documents' answer in every instance, and the Rust's
+    /// answer must be that with 3, 13 and 14 taken together.
     fn check_document(
         &self,
         call: &Call,
         before: &Instance,
         outputs: Outputs,
         answer: Answer,
+        published: Answer,
     ) -> Result<(), End> {
-        match answer.difference(&Answer::of_document(call, before, outputs)) {
-            Some(what) => {
-                let what = format!("the Rust answered {what} by document 01");
-                Err(self.report(call, before, &what))
+        let document = Answer::of_document(call, before, outputs);
+        let differs = [
+            (published, document.published(), "the Rust answered"),
+            (answer, document, "another instance is to answer"),
+        ];
+        for (found, expected, what) in differs {
+            if let Some(difference) = found.difference(&expected) {
+                let what = format!("{what} {difference} by the documents");
+                return Err(self.report(call, before, &what));
             }
-            None => Ok(()),
         }
+        Ok(())
     }
 
     fn check(

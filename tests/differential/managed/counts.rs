@@ -10,7 +10,7 @@ use super::paths::all_paths;
 #[derive(Default)]
 pub struct Counts {
     /// By function, and by the number returned.
-    answers: [[u64; 11]; FUNCTIONS.len()],
+    answers: [[u64; 15]; FUNCTIONS.len()],
     /// By function and path.
     paths: [BTreeMap<&'static str, u64>; FUNCTIONS.len()],
     at_4: u64,

@@ -26,6 +26,7 @@ pub enum Fault {
     AfterRefusal,
     BesideBuffer,
     Number,
+    WhichBuffer,
     Index,
     Moved,
     Dimension,
@@ -45,7 +46,7 @@ use Fault::*;
 /// Every kind of fault, with what it changes in the last instance, or for the last
 /// kind in the plain copy.
 #[rustfmt::skip]
-pub const FAULTS: [(Fault, &str); 25] = [
+pub const FAULTS: [(Fault, &str); 26] = [
     (Factor, "the last bit of an active entry after an update"),
     (Solution, "the last bit of an entry of a solution"),
     (SignOfZero, "the sign of a zero in a result"),
@@ -59,6 +60,7 @@ pub const FAULTS: [(Fault, &str); 25] = [
     (AfterRefusal, "a bit of a buffer after a refusal"),
     (BesideBuffer, "a bit beside a buffer"),
     (Number, "the returned number"),
+    (WhichBuffer, "the number of another buffer: 13 for 3, 14 for 13, 3 for 14"),
     (Index, "the index of a bad diagonal"),
     (Moved, "moved row and column, exchanged"),
     (Dimension, "the dimension after an update"),
@@ -146,7 +148,8 @@ fn wrong_answer(fault: Fault, call: &Call, answer: Answer) -> Option<Answer> {
     let accepted = answer.number == 0;
     match (fault, call.function) {
         (Number, _) => wrong.number ^= 1,
-        (Index, _) if answer.number > 8 => *index += 1,
+        (WhichBuffer, _) => wrong.number = other_buffer(answer.number),
+        (Index, _) if matches!(answer.number, 9 | 10) => *index += 1,
         (Moved, Function::Remove) if accepted => swap(moved_row, moved_column),
         (Dimension, function) if accepted && function.is_update() => *n += 1,
         (Lengths, Function::StorageLengths) if accepted => swap(l, u),
@@ -162,6 +165,16 @@ fn wrong_answer(fault: Fault, call: &Call, answer: Answer) -> Option<Answer> {
         _ => {}
     }
     (wrong != answer).then_some(wrong)
+}
+
+/// The number of another buffer than the one that was refused.
+fn other_buffer(number: u32) -> u32 {
+    match number {
+        3 => 13,
+        13 => 14,
+        14 => 3,
+        _ => number,
+    }
 }
 
 /// The same of the counter and the pair steps of an update whose outputs held `outputs`.

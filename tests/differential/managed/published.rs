@@ -22,7 +22,7 @@ pub fn call_rust(call: &Call, instance: &mut Instance, outputs: Outputs) -> Opti
     Some(Answer { number, outputs })
 }
 
-/// An error is document 01's number, here and below.
+/// An error is document 01's number, here and below: 3 for InsufficientStorage.
 fn lengths(capacity: usize, outputs: &mut Outputs) -> Result<(), u32> {
     let lengths = storage_lengths(capacity).map_err(storage_number)?;
     (outputs.l, outputs.u) = (lengths.l, lengths.u);

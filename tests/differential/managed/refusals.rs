@@ -1,4 +1,5 @@
-//! Document 01's refusals 1 to 10: when each holds, and in which order they are tested.
+//! Document 01's refusals 1 to 10 and document 02's 13 and 14: when each holds, and in
+//! which order they are tested.
 
 use super::call::{Call, Function, Instance};
 use crate::buffers::{Name, VECTORS};
@@ -25,7 +26,8 @@ pub enum Cause {
 use Cause::*;
 
 impl Function {
-    /// What the function is refused for, in the order in which document 01 tests it.
+    /// What the function is refused for, in the order in which it is tested: document 01's,
+    /// with U right after L and the workspaces after U, as document 02 has it.
     pub fn causes(self) -> Vec<Cause> {
         let storage = [Dimension, Overflow, ShortL, ShortU];
         let other: &[Cause] = match self {
@@ -88,7 +90,9 @@ impl Cause {
         match self {
             Dimension => &[1],
             Overflow => &[2],
-            ShortL | ShortU | UnequalWorkspaces => &[3],
+            ShortL => &[3],
+            ShortU => &[13],
+            UnequalWorkspaces => &[14],
             NoRoom => &[4],
             Row => &[5],
             Column => &[6],
@@ -111,6 +115,15 @@ pub fn number(call: &Call, instance: &Instance) -> u32 {
         None => 0,
         Some(Diagonal) => bad_diagonal(instance).map_or(0, |(_, number)| number),
         Some(cause) => cause.numbers()[0],
+    }
+}
+
+/// The number by which the Rust's error is known: it has one name, InsufficientStorage,
+/// for 3, 13 and 14.
+pub fn published_number(number: u32) -> u32 {
+    match number {
+        13 | 14 => 3,
+        _ => number,
     }
 }
 

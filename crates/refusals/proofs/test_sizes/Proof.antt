@@ -20,10 +20,11 @@ returns-2 c =
 
 returns-3 : tie.Need-returns-3
 returns-3 c =
+    let else1 : tie.Else1 = search in
     let r : tie.After-required = search in
     let s : tie.After-storage-lengths = search in
     let g = given-lengths _ _ (s .storage-lengths .ensures) (r .required .given .1) in
-    short-U _ _ _ (g .0) (omega (arith, g .2, c .if2 .taken))
+    short-U _ _ _ (g .0) (omega (arith, g .1, else1 .if1 .left)) (omega (arith, g .2, c .if2 .taken))
 
 returns-4 : tie.Need-returns-4
 returns-4 c =
