@@ -20,7 +20,7 @@ use Rattle.managed.specs.declared.LentLengths.{LentLengths}
 use Rattle.managed.specs.Instance.{Instance, lengthsOf}
 use Rattle.managed.specs.Refusals.{dimensionTest, sizeTests, storageTests, workspaceTests, lentTests, storageAlone, refusalAt}
 use Rattle.managed.specs.Outcome.{Report, Outcome}
-use Rattle.managed.specs.WhichBuffer.{SizesAgree, EqualWorkspaces, BufferNamed, WhichBuffer}
+use Rattle.managed.specs.WhichBuffer.{SizesAgree, ShortL, ShortU, UnequalWorkspaces, BufferNamed, WhichBuffer}
 use Rattle.managed.proofs.Refusals.{is-false}
 use Rattle.managed.proofs.Refused.{behind-numbered, refused-untouched}
 use Rattle.managed.proofs.Accepted.{accepted-number}
@@ -80,6 +80,15 @@ module _ (update : Bool) (n c : ℕ) (lent : LentLengths) (behind : Option Answe
   abbrev unequal : Bool
   unequal = update && not equal
 
+  abbrev Equal : Type 0
+  Equal = (lent .y ≡ lent .z) × (lent .y ≡ lent .w)
+
+  test-holds : Equal → So equal
+  test-holds h = and-i (eqb (lent .y) (lent .z)) (eqb (lent .y) (lent .w)) (eq→eqb (h .0)) (eq→eqb (h .1))
+
+  lengths-equal : So equal → Equal
+  lengths-equal t = (eqb→eq (lent .y) (lent .z) (and-l (eqb (lent .y) (lent .z)) _ t), eqb→eq (lent .y) (lent .w) (and-r (eqb (lent .y) (lent .z)) _ t))
+
   -- what stands behind the buffers' tests
   abbrev x : ℕ
   x = refusalNumber behind
@@ -98,36 +107,29 @@ module _ (update : Bool) (n c : ℕ) (lent : LentLengths) (behind : Option Answe
       let two = passed-by 2 m (overflows c) k (one .1) in
       ((nltb→le c n (one .0), is-false (overflows c) (two .0)), two .1)
 
-  L-named : number ≡ 3 → SizesAgree n c × (lent .l < lLength c)
+  L-named : number ≡ 3 → ShortL n c lent
   L-named e =
       let s = sizes 3 tt tt e in
       let no-other : cond short-U 13 (cond unequal 14 x) ≢ 3 = λ f. none-behind 3 (λ o. o) (passed-by 14 3 unequal tt (passed-by 13 3 short-U tt f .1) .1) in
       (s .0, ltb→lt (lent .l) (lLength c) (held 3 short-L (s .1) no-other))
 
-  U-named : number ≡ 13 → SizesAgree n c × (lLength c ≤ lent .l) × (lent .u < uLength c)
+  U-named : number ≡ 13 → ShortU n c lent
   U-named e =
       let s = sizes 13 tt tt e in
       let l = passed-by 3 13 short-L tt (s .1) in
       let no-other : cond unequal 14 x ≢ 13 = λ f. none-behind 13 (λ o. o) (passed-by 14 13 unequal tt f .1) in
       (s .0, omega (arith, nltb→le (lent .l) (lLength c) (l .0)), omega (arith, ltb→lt (lent .u) (uLength c) (held 13 short-U (l .1) no-other)))
 
-  workspaces-named : number ≡ 14 → So update × SizesAgree n c × (lLength c ≤ lent .l) × (uLength c ≤ lent .u) × ¬ EqualWorkspaces lent
+  workspaces-named : number ≡ 14 → So update × UnequalWorkspaces n c lent
   workspaces-named e =
       let s = sizes 14 tt tt e in
       let l = passed-by 3 14 short-L tt (s .1) in
       let u = passed-by 13 14 short-U tt (l .1) in
-      let w = held 14 unequal (u .1) (none-behind 14 (λ o. o)) in (
-        and-l update (not equal) w,
-        s .0,
-        nltb→le (lent .l) (lLength c) (l .0),
-        nltb→le (lent .u) (uLength c) (u .0),
-        λ same. T-not equal (and-r update (not equal) w) (and-i (eqb (lent .y) (lent .z)) (eqb (lent .y) (lent .w)) (eq→eqb (same .0)) (eq→eqb (same .1))),
-      )
+      let w = held 14 unequal (u .1) (none-behind 14 (λ o. o)) in
+      (and-l update (not equal) w, (s .0, nltb→le (lent .l) (lLength c) (l .0), nltb→le (lent .u) (uLength c) (u .0), λ same. T-not equal (and-r update (not equal) w) (test-holds same)))
 
-  unequal-holds : So update → ¬ EqualWorkspaces lent → unequal ≡ true
-  unequal-holds h different =
-      is-true unequal (and-i update (not equal) h (not-T equal (λ t.
-      different (eqb→eq (lent .y) (lent .z) (and-l (eqb (lent .y) (lent .z)) _ t), eqb→eq (lent .y) (lent .w) (and-r (eqb (lent .y) (lent .z)) _ t)))))
+  unequal-holds : So update → ¬ Equal → unequal ≡ true
+  unequal-holds h different = is-true unequal (and-i update (not equal) h (not-T equal (λ t. different (lengths-equal t))))
 
   buffer-named : BufferNamed update n c lent number
   buffer-named = record {
@@ -135,7 +137,7 @@ module _ (update : Bool) (n c : ℕ) (lent : LentLengths) (behind : Option Answe
     U = (U-named, λ h. by-tests ∙ rw (le-ltb c n (h .0 .0), h .0 .1, le-ltb (lent .l) (lLength c) (omega (arith, h .1)), lt-ltb (lent .u) (uLength c) (omega (arith, h .2))));
     workspaces = (
       workspaces-named,
-      λ h. by-tests ∙ rw (le-ltb c n (h .1 .0), h .1 .1, le-ltb (lent .l) (lLength c) (h .2), le-ltb (lent .u) (uLength c) (h .3), unequal-holds (h .0) (h .4)),
+      λ h. by-tests ∙ rw (le-ltb c n (h .1 .0 .0), h .1 .0 .1, le-ltb (lent .l) (lLength c) (h .1 .1), le-ltb (lent .u) (uLength c) (h .1 .2), unequal-holds (h .0) (h .1 .3)),
     );
   }
 

@@ -17,17 +17,26 @@ use Rattle.managed.specs.Demands.{ManagedOutcome}
 abbrev pub SizesAgree : ℕ → ℕ → Type 0
 SizesAgree n c = (n ≤ c) × (overflows c ≡ false)
 
-abbrev pub EqualWorkspaces : LentLengths → Type 0
-EqualWorkspaces lent = (lent .y ≡ lent .z) × (lent .y ≡ lent .w)
+-- L is the first that is wrong: it is too short, whatever the others are
+abbrev pub ShortL : ℕ → ℕ → LentLengths → Type 0
+ShortL n c lent = SizesAgree n c × (lent .l < lLength c)
+
+-- U is: it is too short, and L is not
+abbrev pub ShortU : ℕ → ℕ → LentLengths → Type 0
+ShortU n c lent = SizesAgree n c × (lLength c ≤ lent .l) × (lent .u < uLength c)
+
+-- the workspaces are: their lengths are not all equal, and L and U are long enough
+abbrev pub UnequalWorkspaces : ℕ → ℕ → LentLengths → Type 0
+UnequalWorkspaces n c lent = SizesAgree n c × (lLength c ≤ lent .l) × (uLength c ≤ lent .u) × ¬ ((lent .y ≡ lent .z) × (lent .y ≡ lent .w))
 
 -- What a number says of the lengths that were lent at dimension n and capacity c, with workspaces among them where the call is an update
 pub record BufferNamed (update : Bool) (n c : ℕ) (lent : LentLengths) (number : ℕ) : Type 0 where
   -- 3 means L alone
-  pub L : (number ≡ 3) ↔ (SizesAgree n c × (lent .l < lLength c))
+  pub L : (number ≡ 3) ↔ ShortL n c lent
   -- 13 when U is too short, tested right after L
-  pub U : (number ≡ 13) ↔ (SizesAgree n c × (lLength c ≤ lent .l) × (lent .u < uLength c))
+  pub U : (number ≡ 13) ↔ ShortU n c lent
   -- 14 when the workspaces have unequal lengths, tested after 13; no solve gives it, and neither adoption nor ready
-  pub workspaces : (number ≡ 14) ↔ (So update × SizesAgree n c × (lLength c ≤ lent .l) × (uLength c ≤ lent .u) × ¬ EqualWorkspaces lent)
+  pub workspaces : (number ≡ 14) ↔ (So update × UnequalWorkspaces n c lent)
 
 pub record WhichBuffer (F : Format) : Type 0 where
   -- the six calls, whatever they do and however they are refused
