@@ -1,7 +1,6 @@
 // The answers of the managed calls as a C host gets them: numbers.
 ghost use mathlib.Core.Path.{_≡_};
 ghost use Rattle.machine.specs.Calls.{numberOf};
-ghost use Rattle.refusals.specs.Refusal.{refusalOf};
 ghost use Rattle.api.specs.Answers.{answerOf, movedRowOf, movedColumnOf, removeAnswerOf};
 ghost use Rattle.answers.specs.Numbers.{indexAfter, movedNumber, movedRowAfter, movedColumnAfter};
 use api::Answer;
@@ -9,26 +8,7 @@ use api::MovedColumn;
 use api::MovedRow;
 use api::RemoveAnswer;
 use refusals::Refusal;
-
-// The number of a refusal in document 01's table, with those that document 02 adds.
-pub fn refusal_number(refusal: Refusal) -> u32
-    ensures { λ r. ⌜ r ≡ numberOf (refusalOf refusal) ⌝ }
-{
-    match refusal {
-        Refusal::InvalidDimension => 1,
-        Refusal::SizeOverflow => 2,
-        Refusal::InsufficientL => 3,
-        Refusal::InsufficientU => 13,
-        Refusal::UnequalWorkspaces => 14,
-        Refusal::CapacityExceeded => 4,
-        Refusal::RowOutOfBounds => 5,
-        Refusal::ColumnOutOfBounds => 6,
-        Refusal::LengthMismatch => 7,
-        Refusal::InsufficientWorkspace => 8,
-        Refusal::Singular(_) => 9,
-        Refusal::NonFiniteDiagonal(_) => 10,
-    }
-}
+use refusals::refusal_number;
 
 // The number of an answer: 0, or its refusal's.
 pub fn answer_number(answer: Answer) -> u32

@@ -14,10 +14,10 @@ ghost use Rattle.answers.specs.Numbers.{indexAfter};
 ghost use Rattle.managed_c.specs.Returned.{SolveReturned, LengthsReturned, ReadyReturned};
 use answers::answer_number;
 use answers::named_index;
-use answers::refusal_number;
 use api::Adoption;
 use api::LuMod;
 use readiness::Readiness;
+use refusals::refusal_number;
 use storage::RequiredLengths;
 
 // The lengths of L and U that a capacity needs.

@@ -2,8 +2,8 @@
 ghost use lib.Ieee.{binary64};
 ghost use Rattle.machine.specs.Calls as calls;
 ghost use Rattle.managed_solves.specs.Attempted.{Attempted};
+use call_tests::test_solve;
 use refusals::Test;
-use refusals::test_solve;
 
 // Solves with the matrix: 7, then the diagonal of U.
 pub fn solve(n: usize, capacity: usize, l: &mut [f64], u: &[f64], rhs: &mut [f64]) -> Test

@@ -2,13 +2,13 @@
 ghost use lib.Ieee.{binary64};
 ghost use Rattle.machine.specs.Calls as calls;
 ghost use Rattle.managed_updates.specs.Attempted.{reportOf, removeReportOf, Attempted};
+use call_tests::test_push;
+use call_tests::test_remove;
+use call_tests::test_replacement;
 use managed::LentLengths;
 use numerics::tolerance::managed;
 use refusals::Refusal;
 use refusals::Test;
-use refusals::test_push;
-use refusals::test_remove;
-use refusals::test_replacement;
 
 // What an update that was carried out leaves: the dimension, and how many pair steps it made.
 pub struct Made {

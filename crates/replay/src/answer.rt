@@ -1,7 +1,6 @@
 // Answers of the managed calls as numbers.
 use answers::column_number;
 use answers::named_index;
-use answers::refusal_number;
 use answers::row_number;
 use api::Adoption;
 use api::Answer;
@@ -12,6 +11,7 @@ use api::RemoveResult;
 use api::UpdateResult;
 use readiness::Readiness;
 use refusals::Refusal;
+use refusals::refusal_number;
 
 // What stands for no index, no moved row and no moved column.
 const NOTHING: usize = 0xFFFF_FFFF_FFFF_FFFF;

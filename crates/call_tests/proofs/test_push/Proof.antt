@@ -3,9 +3,9 @@ use Prim.Native.Nat.{_+_, _<_, _≤_}
 use native.Mathlib.Omega.{arith}
 use borrow.Author.Tests.{lt-ltb, le-ltb, eq-eqb, ne-eqb}
 use borrow.Author.Needs.{needs}
 use Rattle.refusals.proofs.Chain.{refused-first, passed-none}
-use Rattle.refusals.proofs.test_push.Statement.{statement}
-use Rattle.refusals.proofs.test_push.Tie as tie
+use Rattle.call_tests.proofs.test_push.Statement.{statement}
+use Rattle.call_tests.proofs.test_push.Tie as tie
 
 returns : tie.Need-returns
 returns c = refused-first (c .before .before .test-lent .ensures) _ _ (c .enum-told2 .given .1)

@@ -7,9 +7,9 @@ use borrow.Author.Tests.{eq-eqb, ne-eqb}
 use borrow.Author.Needs.{needs}
 use Rattle.machine.proofs.Refusals.{or-else-last}
 use Rattle.managed.proofs.Refusals.{storage-passed}
 use Rattle.refusals.proofs.Chain.{refused-first, passed-none}
-use Rattle.refusals.proofs.test_solve.Statement.{statement}
-use Rattle.refusals.proofs.test_solve.Tie as tie
+use Rattle.call_tests.proofs.test_solve.Statement.{statement}
+use Rattle.call_tests.proofs.test_solve.Tie as tie
 
 returns : tie.Need-returns
 returns c = refused-first (refused-first (c .before .before .test-storage .ensures) _ none (c .enum-told2 .given .1)) _ _ (c .enum-told2 .given .1)

@@ -1,9 +1,9 @@
 -- `test_replacement`: each way through its tests.
 use borrow.Author.Tests.{lt-ltb, le-ltb, le-leb, lt-leb, eq-eqb, ne-eqb}
 use borrow.Author.Needs.{needs}
 use Rattle.refusals.proofs.Chain.{refused-first, passed-none}
-use Rattle.refusals.proofs.test_replacement.Statement.{statement}
-use Rattle.refusals.proofs.test_replacement.Tie as tie
+use Rattle.call_tests.proofs.test_replacement.Statement.{statement}
+use Rattle.call_tests.proofs.test_replacement.Tie as tie
 
 returns : tie.Need-returns
 returns c = refused-first (c .before .before .test-lent .ensures) _ _ (c .enum-told2 .given .1)
