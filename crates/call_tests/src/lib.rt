@@ -1,4 +1,5 @@
-// The tests of the updates and the solves, each in its call's order. A test only reads.
+// The tests of the updates and the solves, each in its call's order: first what the call lends, 1, 2, 3, 13 and for an update 14, then its own. A test only
+// reads.
 ghost use mathlib.Core.Path.{_≡_};
 ghost use mathlib.Core.Option.{none};
 ghost use Prim.Native.Nat.{_+_};

@@ -14,6 +14,14 @@ use Rattle.machine.specs.Agreement.{Agree, Same, AgreeWithin}
 
 -- ---- tests
 
+pub is-true : (b : Bool) → So b → b ≡ true
+is-true true h = refl
+is-true false h = absurd h
+
+pub is-false : (b : Bool) → So (not b) → b ≡ false
+is-false true h = absurd h
+is-false false h = refl
+
 pub neqb→ne : (a b : ℕ) → So (not (eqb a b)) → a ≡ b → ⊥
 neqb→ne a b s e = T-not (eqb a b) s (eq→eqb e)
 

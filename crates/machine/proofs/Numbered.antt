@@ -18,7 +18,7 @@ use Rattle.machine.proofs.Refusals.{none-is-some}
 abbrev pub Numbered : (ℕ → Type 0) → Option Answer → Type 0
 Numbered P o = (r : Answer) → o ≡ some r → P (numberOf r)
 
--- a number that a refusal can have
+-- success is 0, so a refusal's number is above
 abbrev pub AboveZero : ℕ → Type 0
 AboveZero k = 0 < k
 

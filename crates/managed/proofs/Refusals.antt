@@ -10,7 +10,7 @@ use lib.ListN.{length}
 use Rattle.numbers.specs.NumberForm.{NumberForm}
 use Rattle.machine.specs.Calls.{Call, Answer, refuseIf, isPush, isUpdate}
 use Rattle.machine.specs.Machine.{refusal}
-use Rattle.machine.proofs.Choice.{neqb→ne}
+use Rattle.machine.proofs.Choice.{is-false, neqb→ne}
 use Rattle.machine.proofs.Refusals.{or-else-none, or-else-last, refuse-if-none, refuse-if-false, equations-hold}
 use Rattle.storage.specs.Places.{lLength, uLength, overflows}
 use Rattle.storage.proofs.Lengths.{overflows-from}
@@ -19,10 +19,6 @@ use Rattle.managed.specs.Instance.{Instance, view}
 use Rattle.managed.specs.Refusals.{dimensionTest, sizeTests, storageTests, workspaceTests, lentTests, capacityTest, roomTest, inOrder, lends, reached, refusalAt}
 
 -- ---- the parts
-
-pub is-false : (b : Bool) → So (not b) → b ≡ false
-is-false true h = absurd h
-is-false false h = refl
 
 -- a dimension, a capacity and lengths that pass 1, 2, 3 and 13
 pub record StoragePassed (n c l u : ℕ) : Type 0 where

@@ -12,7 +12,7 @@ use borrow.Author.Tests.{lt-ltb, le-ltb}
 use Rattle.numbers.specs.NumberForm.{NumberForm, ieee}
 use Rattle.numbers.specs.Tolerances.{managedEpsilon, managedTiny}
 use Rattle.machine.specs.Calls.{Call, Answer, numberOf, refusalNumber, _orElse_, refuseIf, isUpdate}
-use Rattle.machine.proofs.Choice.{neqb→ne}
+use Rattle.machine.proofs.Choice.{is-true, is-false, neqb→ne}
 use Rattle.machine.proofs.Refusals.{or-else-last, none-is-some}
 use Rattle.machine.proofs.Numbered.{Numbered}
 use Rattle.storage.specs.Places.{lLength, uLength, overflows}
@@ -21,7 +21,6 @@ use Rattle.managed.specs.Instance.{Instance, lengthsOf}
 use Rattle.managed.specs.Refusals.{dimensionTest, sizeTests, storageTests, workspaceTests, lentTests, storageAlone, refusalAt}
 use Rattle.managed.specs.Outcome.{Report, Outcome}
 use Rattle.managed.specs.WhichBuffer.{SizesAgree, ShortL, ShortU, UnequalWorkspaces, BufferNamed, WhichBuffer}
-use Rattle.managed.proofs.Refusals.{is-false}
 use Rattle.managed.proofs.Refused.{behind-numbered, refused-untouched}
 use Rattle.managed.proofs.Accepted.{accepted-number}
 
@@ -52,7 +51,7 @@ held : (k : ℕ) (b : Bool) {x : ℕ} → cond b k x ≡ k → x ≢ k → So b
 held k true e h = tt
 held k false e h = absurd (h e)
 
--- no number of a buffer
+-- neither 3, 13 nor 14
 abbrev Other : ℕ → Type 0
 Other k = So (not (eqb k 3 || (eqb k 13 || eqb k 14)))
 
@@ -61,10 +60,6 @@ other-number none h = tt
 other-number (some a) h = h a refl
 
 -- ---- both directions
-
-is-true : (b : Bool) → So b → b ≡ true
-is-true true h = refl
-is-true false h = absurd h
 
 module _ (update : Bool) (n c : ℕ) (lent : LentLengths) (behind : Option Answer) (other : Numbered Other behind) {number : ℕ}
     (is-number : number ≡ refusalNumber (lentTests update n c lent orElse behind)) where
