@@ -2,6 +2,7 @@
 use crate::print::double;
 use crate::print::number;
 use crate::print::text;
+use answers::named_index;
 use api::Answer;
 use api::ColumnIndex;
 use api::LuMod;
@@ -12,6 +13,10 @@ use api::RemoveAnswer;
 use api::RemoveResult;
 use api::RowIndex;
 use refusals::Refusal;
+use refusals::refusal_number;
+
+// What stands for no index.
+const NO_INDEX: usize = 0xFFFF_FFFF_FFFF_FFFF;
 
 // The state, L and U.
 struct Factors {
@@ -95,18 +100,15 @@ fn pair_steps(steps: usize) {
     text(b"\n");
 }
 
-// What a refused call answers.
+// What a refused call answers: the refusal's number, and its index where it has one.
 fn refusal(found: Refusal) {
-    match found {
-        Refusal::Singular(i) => {
-            text(b"refused 9 at ");
-            number(i);
-        }
-        Refusal::NonFiniteDiagonal(i) => {
-            text(b"refused 10 at ");
-            number(i);
-        }
-        _ => text(b"refused"),
+    text(b"refused ");
+    number(refusal_number(found) as usize);
+    let answer = Answer::Refused(found);
+    let index = named_index(answer, NO_INDEX);
+    if index != NO_INDEX {
+        text(b" at ");
+        number(index);
     }
 }
 
