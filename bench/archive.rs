@@ -42,7 +42,7 @@ impl<'a> Factors<'a> for Storage<'a> {
                 n, *capacity, l.as_mut_ptr(), l.len(), u.as_mut_ptr(), u.len(),
                 y.as_mut_ptr(), y.len(), z.as_mut_ptr(), z.len(), w.as_mut_ptr(), w.len(),
                 row.as_ptr(), row.len(), column.as_ptr(), column.len(), case.diagonal,
-                counter, &mut 0,
+                counter, &mut 0, &mut 0,
             )
         }
     }
@@ -54,7 +54,7 @@ impl<'a> Factors<'a> for Storage<'a> {
             lumod_replace_row(
                 *n, *capacity, l.as_mut_ptr(), l.len(), u.as_mut_ptr(), u.len(),
                 y.as_mut_ptr(), y.len(), z.as_mut_ptr(), z.len(), w.as_mut_ptr(), w.len(),
-                case.row, case.row_data.as_ptr(), case.row_data.len(), counter, &mut 0,
+                case.row, case.row_data.as_ptr(), case.row_data.len(), counter, &mut 0, &mut 0,
             )
         }
     }
@@ -66,7 +66,8 @@ impl<'a> Factors<'a> for Storage<'a> {
             lumod_replace_column(
                 *n, *capacity, l.as_mut_ptr(), l.len(), u.as_mut_ptr(), u.len(),
                 y.as_mut_ptr(), y.len(), z.as_mut_ptr(), z.len(), w.as_mut_ptr(), w.len(),
-                case.column, case.column_data.as_ptr(), case.column_data.len(), counter, &mut 0,
+                case.column, case.column_data.as_ptr(), case.column_data.len(),
+                counter, &mut 0, &mut 0,
             )
         }
     }

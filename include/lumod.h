@@ -9,9 +9,11 @@
  * two families of calls:
  *
  *     managed     lumod_push and all others whose names begin with lumod_. A
- *                 solve is one call, and tests U's diagonal.
+ *                 solve is one call, and tests U's diagonal. An update tests
+ *                 whether its data are finite.
  *     zero-based  LUmod, which is every update by a mode, and Lprod and
- *                 Usolve, the two halves of a solve. No diagonal is tested.
+ *                 Usolve, the two halves of a solve. No diagonal and no data
+ *                 are tested.
  *
  * Storage. The caller owns every buffer. Rows and columns are numbered from 0.
  * The capacity c is the largest dimension that the storage can hold, and it
@@ -39,10 +41,13 @@
  *
  * Numbers. Every operation is IEEE 754 binary64, rounded once, in the default
  * floating-point environment: to nearest, with subnormals. Zeros, infinities
- * and NaNs are ordinary data: they are computed with. A computed NaN may have
- * any sign and payload. The tolerances of the updates are E, which is 2^-52 in
- * the managed calls and the double nearest 2.22e-16 in the zero-based ones,
- * and T, which is E times the double nearest 0.0001.
+ * and NaNs are computed with, in factors, in right-hand sides and in all that
+ * a zero-based call is handed. A managed update refuses infinities and NaNs in
+ * the data that it is lent, and nowhere else. Finite means neither infinite
+ * nor NaN. A computed NaN may have any sign and payload. The tolerances of the
+ * updates are E, which is 2^-52 in the managed calls and the double nearest
+ * 2.22e-16 in the zero-based ones, and T, which is E times the double nearest
+ * 0.0001.
  *
  * State. The functions keep nothing between calls. The host keeps n, c and the
  * buffers, and for the managed calls a counter. Calls on different buffers and
@@ -56,8 +61,9 @@
 
 /*
  * What the functions return. All but LUMOD_OK are refusals, and with a refusal
- * nothing is written anywhere, except that *index is written with 9 and 10,
- * and *steps by every managed update.
+ * nothing is written anywhere, except that *index is written with 9, 10 and
+ * 23, and *steps by every managed update. With every other number, LUMOD_OK
+ * among them, *index is unchanged. It needs no content before the call.
  */
 #define LUMOD_OK 0u                     /* carried out */
 #define LUMOD_INVALID_DIMENSION 1u      /* n is more than the capacity */
@@ -74,6 +80,7 @@
 #define LUMOD_TOO_SMALL 12u             /* stride or buffer too small for n */
 #define LUMOD_INSUFFICIENT_U 13u        /* u is too short */
 #define LUMOD_UNEQUAL_WORKSPACES 14u    /* y, z and w of unequal length */
+#define LUMOD_NON_FINITE_DATA 23u       /* an infinity or NaN in lent data */
 
 #ifdef __cplusplus
 extern "C" {
@@ -99,6 +106,11 @@ extern "C" {
  *
  * So each number names the buffer that is wrong. In the Rust the last three of
  * these five are one error, InsufficientStorage.
+ *
+ * Data. What lumod_push, lumod_replace_row and lumod_replace_column are lent
+ * to put into A must be finite, or else they return LUMOD_NON_FINITE_DATA and
+ * name the first place where it is not. The Rust has no such test. No other
+ * call has it, and no update tests what the factors and the workspaces hold.
  *
  * The workspaces y, z and w need no content. In the comments on lumod_push and
  * lumod_remove, n is what *n holds before the call. A scratch entry may hold
@@ -154,8 +166,8 @@ uint32_t lumod_from_storage(size_t n, size_t c, const double *l, size_t l_len,
  *     A    column
  *     row  diagonal
  *
- * Needs: factors of dimension n less than c; row and column exactly n long;
- * y, z and w at least n + 1 long.
+ * Needs: factors of dimension n less than c; row and column exactly n long,
+ * and all their values and diagonal finite; y, z and w at least n + 1 long.
  *
  * Returns:
  *     LUMOD_OK                      The row and the column were appended.
@@ -163,6 +175,8 @@ uint32_t lumod_from_storage(size_t n, size_t c, const double *l, size_t l_len,
  *     the workspace test
  *     LUMOD_CAPACITY_EXCEEDED       n is c.
  *     LUMOD_LENGTH_MISMATCH         row_len or column_len is not n.
+ *     LUMOD_NON_FINITE_DATA         A value in row or in column, or diagonal,
+ *                                   is infinite or NaN.
  *     LUMOD_INSUFFICIENT_WORKSPACE  y_len is less than n + 1.
  *
  * Leaves, with LUMOD_OK:
@@ -171,18 +185,22 @@ uint32_t lumod_from_storage(size_t n, size_t c, const double *l, size_t l_len,
  *     l        L(i,j), i <= n and j <= n.
  *     u        U(i,j), i <= j <= n.
  *     y, z, w  The first n + 1 entries are scratch.
+ * With LUMOD_NON_FINITE_DATA:
+ *     *index  The place of the first such value: i for row[i], n + i for
+ *             column[i], 2 * n for diagonal.
  */
 uint32_t lumod_push(size_t *n, size_t c, double *l, size_t l_len, double *u,
                     size_t u_len, double *y, size_t y_len, double *z,
                     size_t z_len, double *w, size_t w_len, const double *row,
                     size_t row_len, const double *column, size_t column_len,
-                    double diagonal, size_t *counter, size_t *steps);
+                    double diagonal, size_t *counter, size_t *steps,
+                    size_t *index);
 
 /*
  * lumod_replace_row replaces a row by values.
  *
- * Needs: factors of dimension n; row less than n; values exactly n long; y, z
- * and w at least n long.
+ * Needs: factors of dimension n; row less than n; values exactly n long, and
+ * all of them finite; y, z and w at least n long.
  *
  * Returns:
  *     LUMOD_OK                      The row was replaced.
@@ -190,6 +208,7 @@ uint32_t lumod_push(size_t *n, size_t c, double *l, size_t l_len, double *u,
  *     the workspace test
  *     LUMOD_ROW_OUT_OF_BOUNDS       row is n or more.
  *     LUMOD_LENGTH_MISMATCH         values_len is not n.
+ *     LUMOD_NON_FINITE_DATA         One of the values is infinite or NaN.
  *     LUMOD_INSUFFICIENT_WORKSPACE  y_len is less than n.
  *
  * Leaves, with LUMOD_OK:
@@ -197,18 +216,20 @@ uint32_t lumod_push(size_t *n, size_t c, double *l, size_t l_len, double *u,
  *     l        L(i,j), i < n and j < n.
  *     u        U(i,j), i <= j < n.
  *     y, z, w  The first n entries are scratch.
+ * With LUMOD_NON_FINITE_DATA:
+ *     *index  The place of the first such value: i for values[i].
  */
 uint32_t lumod_replace_row(size_t n, size_t c, double *l, size_t l_len,
                            double *u, size_t u_len, double *y, size_t y_len,
                            double *z, size_t z_len, double *w, size_t w_len,
-                           size_t row, const double *values,
-                           size_t values_len, size_t *counter, size_t *steps);
+                           size_t row, const double *values, size_t values_len,
+                           size_t *counter, size_t *steps, size_t *index);
 
 /*
  * lumod_replace_column replaces a column by values.
  *
- * Needs: factors of dimension n; column less than n; values exactly n long; y,
- * z and w at least n long.
+ * Needs: factors of dimension n; column less than n; values exactly n long,
+ * and all of them finite; y, z and w at least n long.
  *
  * Returns:
  *     LUMOD_OK                      The column was replaced.
@@ -216,9 +237,10 @@ uint32_t lumod_replace_row(size_t n, size_t c, double *l, size_t l_len,
  *     the workspace test
  *     LUMOD_COLUMN_OUT_OF_BOUNDS    column is n or more.
  *     LUMOD_LENGTH_MISMATCH         values_len is not n.
+ *     LUMOD_NON_FINITE_DATA         One of the values is infinite or NaN.
  *     LUMOD_INSUFFICIENT_WORKSPACE  y_len is less than n.
  *
- * Leaves, with LUMOD_OK: what lumod_replace_row leaves, but *steps is at most
+ * Leaves what lumod_replace_row leaves, but with LUMOD_OK *steps is at most
  * 2 * (n - 1 - column).
  */
 uint32_t lumod_replace_column(size_t n, size_t c, double *l, size_t l_len,
@@ -226,7 +248,7 @@ uint32_t lumod_replace_column(size_t n, size_t c, double *l, size_t l_len,
                               double *z, size_t z_len, double *w, size_t w_len,
                               size_t column, const double *values,
                               size_t values_len, size_t *counter,
-                              size_t *steps);
+                              size_t *steps, size_t *index);
 
 /*
  * lumod_remove removes a row and a column. The last row takes the place of the

@@ -1,5 +1,6 @@
 //! Writes the sample that the program `replay` reads: lists of managed calls with the answers of
-//! the published Rust. README.md has the form. The seed is fixed, so the bytes are always the same.
+//! the published Rust, or with 23 where the data of an update are refused. README.md has the form.
+//! The seed is fixed, so the bytes are always the same.
 
 #![allow(dead_code)]
 
@@ -12,11 +13,13 @@ use data::{near, unused_value, Profile, MANAGED};
 use random::Random;
 use rlumod::api::{ColumnIndex, LuMod, RowIndex, SolveError, StorageError, UpdateError, Workspace};
 
-const SEED: u64 = 21;
+const SEED: u64 = 55;
 const LISTS: usize = 420;
 const FIRST_WORD: &[u8; 8] = b"LUMOD 1\n";
 const LARGEST_CAPACITY: usize = 15;
 const NOTHING: usize = usize::MAX;
+const INSUFFICIENT_WORKSPACE: usize = 8;
+const NON_FINITE_DATA: usize = 23;
 
 #[derive(Clone, Copy, PartialEq)]
 enum Function {
@@ -35,6 +38,10 @@ use Function::*;
 impl Function {
     fn is_update(self) -> bool {
         matches!(self, Push | ReplaceRow | ReplaceColumn | Remove)
+    }
+
+    fn lends_data(self) -> bool {
+        self.is_update() && self != Remove
     }
 
     fn is_solve(self) -> bool {
@@ -57,6 +64,14 @@ struct Call {
     diagonal: f64,
     first: Vec<f64>,
     second: Vec<f64>,
+}
+
+impl Call {
+    /// Its vectors and its diagonal, whether or not its function is lent them.
+    fn numbers(&mut self) -> Vec<&mut f64> {
+        let vectors = self.first.iter_mut().chain(&mut self.second);
+        vectors.chain([&mut self.diagonal]).collect()
+    }
 }
 
 struct Answer {
@@ -82,7 +97,7 @@ fn main() {
     let mut random = Random::new(SEED);
     let mut sample = Sample {
         bytes: FIRST_WORD.to_vec(),
-        answers: [0; 11],
+        answers: [0; 24],
     };
     sample.size(LISTS);
     for list in 0..LISTS {
@@ -99,7 +114,7 @@ fn main() {
 
 struct Sample {
     bytes: Vec<u8>,
-    answers: [usize; 11],
+    answers: [usize; 24],
 }
 
 impl Sample {
@@ -197,7 +212,18 @@ impl Instance {
             let i = random.index(n);
             instance.u[u_start(c, i)] = odd_diagonal(random);
         }
+        if n > 0 && random.chance(1, 6) {
+            let i = random.index(n);
+            put_non_finite(instance.row(i), random);
+        }
         instance
+    }
+
+    /// The active entries of row i of L and U.
+    fn row(&mut self, i: usize) -> Vec<&mut f64> {
+        let &mut Self { n, c, .. } = self;
+        let l = self.l[i * c..][..n].iter_mut();
+        l.chain(&mut self.u[u_start(c, i)..][..n - i]).collect()
     }
 
     fn active_bits(&self) -> Vec<u64> {
@@ -249,14 +275,24 @@ fn add_list(list: usize, sample: &mut Sample, random: &mut Random) {
     sample.factors(&instance);
     for _ in 0..calls {
         profile = profile.or_other(random);
-        let mut call = sound_call(&instance, largest, profile, random);
-        if random.chance(1, 4) {
-            for _ in 0..random.between(1, 2) {
-                add_cause(&mut call, &instance, random);
-            }
-        }
+        let call = next_call(&instance, largest, profile, random);
         add_call(&call, &mut instance, sample);
     }
+}
+
+/// A call with or without reasons to be refused; one with infinities or NaNs has others more often.
+fn next_call(instance: &Instance, largest: usize, profile: Profile, random: &mut Random) -> Call {
+    let mut call = sound_call(instance, largest, profile, random);
+    let non_finite = random.chance(1, 8);
+    if non_finite {
+        put_non_finite(call.numbers(), random);
+    }
+    if random.chance(if non_finite { 2 } else { 1 }, 4) {
+        for _ in 0..random.between(1, 2) {
+            add_cause(&mut call, instance, random);
+        }
+    }
+    call
 }
 
 /// Any function at any time, growth and solves more often than the others.
@@ -295,7 +331,7 @@ fn sound_call(instance: &Instance, largest: usize, profile: Profile, random: &mu
     let mut vector = |wanted| {
         let length = if wanted { n } else { 0 };
         (0..length)
-            .map(|_| profile.value(random))
+            .map(|_| value(function, profile, random))
             .collect::<Vec<_>>()
     };
     let mut first = vector(!matches!(function, Remove | Ready | FromStorage));
@@ -312,10 +348,21 @@ fn sound_call(instance: &Instance, largest: usize, profile: Profile, random: &mu
         capacity: c,
         row: random.index(n),
         column: random.index(n),
-        diagonal: profile.value(random),
+        diagonal: value(function, profile, random),
         first,
         second,
     }
+}
+
+/// A double of the profile. The data of an update are finite: where the profile's is not, it is of
+/// another profile or of the largest magnitude.
+fn value(function: Function, profile: Profile, random: &mut Random) -> f64 {
+    let mut value = profile.value(random);
+    while function.lends_data() && !value.is_finite() {
+        let other = Profile::choose(random).value(random);
+        value = random.pick(&[other, f64::MAX, -f64::MAX]);
+    }
+    value
 }
 
 /// Now and then an entry, the first and the last one more often, lies at E or T or beside it.
@@ -326,6 +373,14 @@ fn put_tolerance(vector: &mut [f64], random: &mut Random) {
         let magnitude = random.pick(&[MANAGED.e, MANAGED.e, MANAGED.t]);
         let value = near(magnitude, random);
         vector[random.pick(&[i, last])] = random.pick(&[value, magnitude, -magnitude]);
+    }
+}
+
+/// Makes up to three of the numbers infinite or NaN.
+fn put_non_finite(mut numbers: Vec<&mut f64>, random: &mut Random) {
+    for _ in 0..random.between(1, 3) {
+        let place = random.index(numbers.len());
+        *numbers[place] = random.pick(&[f64::NAN, f64::INFINITY, f64::NEG_INFINITY]);
     }
 }
 
@@ -343,8 +398,7 @@ fn add_cause(call: &mut Call, instance: &Instance, random: &mut Random) {
         4 if call.function.is_update() => call.w = random.below(call.y),
         5 if call.function == Push => call.capacity = n,
         6 => (call.row, call.column) = random.pick(&[(past, 0), (0, past)]),
-        7 if call.first.is_empty() => call.second.push(1.0),
-        7 => call.first.truncate(random.below(n)),
+        7 => change_length(call, random),
         _ if call.function.is_update() => {
             let short = random.below(n + 1);
             (call.y, call.z, call.w) = (short, short, short);
@@ -353,24 +407,76 @@ fn add_cause(call: &mut Call, instance: &Instance, random: &mut Random) {
     }
 }
 
-/// Makes the call in the Rust, and writes it with the answer and with what it left.
+/// Makes a vector longer or shorter: push's row or column, or the first vector of any other call.
+fn change_length(call: &mut Call, random: &mut Random) {
+    let second = call.function == Push && random.chance(1, 2);
+    let vector = if second {
+        &mut call.second
+    } else {
+        &mut call.first
+    };
+    if vector.is_empty() || random.chance(1, 2) {
+        vector.push(1.0);
+    } else {
+        vector.truncate(random.below(vector.len()));
+    }
+}
+
+/// Makes the call in the Rust, on a copy, and writes it with its answer and with what it left.
 fn add_call(call: &Call, instance: &mut Instance, sample: &mut Sample) {
-    let before = instance.active_bits();
+    let mut changed = instance.clone();
     let mut first = call.first.clone();
-    let answer = make_call(call, instance, &mut first);
+    let answer = make_call(call, &mut changed, &mut first);
+    let answer = refused_data(call, &answer).unwrap_or(answer);
     sample.call(call);
     sample.answer(&answer);
-    if answer.number != 0 {
-        assert!(
-            before == instance.active_bits(),
+    match answer.number {
+        0 => {
+            changed.n = answer.dimension;
+            *instance = changed;
+            add_results(call, instance, &first, sample);
+        }
+        NON_FINITE_DATA => {}
+        _ => assert!(
+            instance.active_bits() == changed.active_bits(),
             "a refused call changed the factors"
-        );
-    } else if call.function.is_update() {
-        instance.n = answer.dimension;
+        ),
+    }
+}
+
+/// What an accepted call left: an update its factors, a solve its vector.
+fn add_results(call: &Call, instance: &Instance, first: &[f64], sample: &mut Sample) {
+    if call.function.is_update() {
         sample.factors(instance);
     } else if call.function.is_solve() {
-        sample.vector(&first);
+        sample.vector(first);
     }
+}
+
+/// The rule that the Rust does not have: an update that passes all tests before 8 is refused with
+/// 23 where its data hold an infinity or a NaN, and the index is the first such place.
+fn refused_data(call: &Call, rust: &Answer) -> Option<Answer> {
+    if !matches!(rust.number, 0 | INSUFFICIENT_WORKSPACE) {
+        return None;
+    }
+    let index = first_non_finite(call)?;
+    Some(Answer {
+        number: NON_FINITE_DATA,
+        dimension: call.dimension,
+        index,
+        moved_row: NOTHING,
+        moved_column: NOTHING,
+    })
+}
+
+/// Counted through push's row, column and diagonal, or through a replacement's values.
+fn first_non_finite(call: &Call) -> Option<usize> {
+    let data = match call.function {
+        Push => [&call.first[..], &call.second, &[call.diagonal]].concat(),
+        ReplaceRow | ReplaceColumn => call.first.clone(),
+        _ => return None,
+    };
+    data.iter().position(|value| !value.is_finite())
 }
 
 /// The answer, with a refusal as document 01's number.
@@ -458,7 +564,7 @@ fn update_number(error: UpdateError) -> usize {
         UpdateError::RowOutOfBounds => 5,
         UpdateError::ColumnOutOfBounds => 6,
         UpdateError::LengthMismatch => 7,
-        UpdateError::InsufficientWorkspace => 8,
+        UpdateError::InsufficientWorkspace => INSUFFICIENT_WORKSPACE,
         _ => panic!("an update error without a number"),
     }
 }

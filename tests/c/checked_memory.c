@@ -153,6 +153,12 @@ static void allow_nan(double *expected, const double *found) {
     }
 }
 
+void allow_nans(struct memory *expected, struct memory *found, int buffer, size_t count) {
+    for (size_t place = 0; place < count; place++) {
+        allow_nan(buffer_at(expected, buffer, place), buffer_at(found, buffer, place));
+    }
+}
+
 void allow_active_nans(struct memory *expected, struct memory *found, size_t capacity,
                        size_t n) {
     for (size_t i = 0; i < n; i++) {

@@ -52,6 +52,7 @@ void allow_scratch(struct memory *expected, struct memory *found, int buffer, si
 void allow_workspaces(struct memory *expected, struct memory *found, size_t count);
 /* The last row and column of dimension n, which a removal drops. */
 void allow_dropped(struct memory *expected, struct memory *found, size_t capacity, size_t n);
+void allow_nans(struct memory *expected, struct memory *found, int buffer, size_t count);
 void allow_active_nans(struct memory *expected, struct memory *found, size_t capacity,
                        size_t n);
 

@@ -1,4 +1,5 @@
 // The header from C++: two pushes and a solve in each family of calls.
+#include <cmath>
 #include <cstdio>
 
 #include "lumod.h"
@@ -18,16 +19,19 @@ static bool zero_based() {
 
 static bool managed() {
     double l[6], u[3], y[2], z[2], w[2], rhs[2] = {8, 5};
-    const double row[2] = {4, 1}, column[2] = {6, 1};
+    const double row[2] = {4, 1}, column[2] = {6, 1}, not_finite[2] = {NAN, 1};
     size_t n = 0, l_len, u_len, index, moved_row, moved_column, counter = 0, steps;
     uint8_t ready;
     const uint32_t numbers[] = {
         lumod_storage_lengths(2, &l_len, &u_len),
         lumod_from_storage(n, 2, l, 6, u, 3),
-        lumod_push(&n, 2, l, 6, u, 3, y, 2, z, 2, w, 2, row, 0, column, 0, 2, &counter, &steps),
-        lumod_push(&n, 2, l, 6, u, 3, y, 2, z, 2, w, 2, row, 1, column, 1, 1, &counter, &steps),
+        lumod_push(&n, 2, l, 6, u, 3, y, 2, z, 2, w, 2, row, 0, column, 0, 2, &counter, &steps,
+                   &index),
+        lumod_push(&n, 2, l, 6, u, 3, y, 2, z, 2, w, 2, row, 1, column, 1, 1, &counter, &steps,
+                   &index),
         lumod_solve(n, 2, l, 6, u, 3, rhs, 2, &index),
-        lumod_replace_row(n, 2, l, 6, u, 3, y, 2, z, 2, w, 2, 0, row, 2, &counter, &steps),
+        lumod_replace_row(n, 2, l, 6, u, 3, y, 2, z, 2, w, 2, 0, row, 2, &counter, &steps,
+                          &index),
         lumod_ready(n, 2, l, 6, u, 3, &ready),
     };
     bool right = l_len == 6 && u_len == 3 && rhs[0] == 1 && rhs[1] == 1;
@@ -38,8 +42,11 @@ static bool managed() {
     right = right && ready == 0;
     right = right && lumod_solve_transpose(n, 2, l, 6, u, 3, rhs, 2, &index) == LUMOD_SINGULAR;
     right = right && index == 1;
+    right = right && lumod_replace_row(n, 2, l, 6, u, 3, y, 2, z, 2, w, 2, 1, not_finite, 2,
+                                       &counter, &steps, &index) == LUMOD_NON_FINITE_DATA;
+    right = right && index == 0 && steps == 0;
     right = right && lumod_replace_column(n, 2, l, 6, u, 3, y, 2, z, 2, w, 2, 0, column, 2,
-                                          &counter, &steps) == LUMOD_OK;
+                                          &counter, &steps, &index) == LUMOD_OK;
     right = right && lumod_remove(&n, 2, l, 6, u, 3, y, 2, z, 2, w, 2, 1, 0, &moved_row,
                                   &moved_column, &counter, &steps) == LUMOD_OK;
     right = right && n == 1 && moved_row == SIZE_MAX && moved_column == 1;

@@ -38,10 +38,13 @@ struct half_solve {
 };
 
 /* A family of calls: its tolerance E, and functions that make the call and
- * check all that it leaves. A NaN in the factors stands for every NaN. */
+ * check all that it leaves. A NaN in a result stands for every NaN.
+ * check_non_finite takes an update by data that are not finite, first at the place:
+ * the zero-based calls make it, the managed calls refuse it. */
 struct family {
     double e;
     void (*check_update)(const struct update *);
+    void (*check_non_finite)(const struct update *, size_t place);
     void (*check_product)(const struct half_solve *);
     void (*check_substitution)(const struct half_solve *);
 };

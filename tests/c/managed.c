@@ -1,7 +1,8 @@
 /*
  * Tests of the managed calls from C: the bench table, known results, what a
  * removal moves, any diagonal, empty factors, adopted storage, every refusal,
- * pair steps and their counter, and a matrix that is kept beside its factors.
+ * data that are not finite, pair steps and their counter, and a matrix that is
+ * kept beside its factors.
  * The last line counts the checks. The exit status is 1 where one failed.
  */
 #include <math.h>
@@ -11,6 +12,7 @@
 
 #include "managed_calls.h"
 #include "managed_counter.h"
+#include "managed_data.h"
 #include "managed_kept_matrix.h"
 #include "managed_refusals.h"
 
@@ -55,6 +57,14 @@ static void check_known_update(const struct update *u) {
     for (size_t k = 0; k < COUNT(more_doubles); k++) {
         struct managed c = prepare_update(&m, u, more_doubles[k]);
         check_managed_update(u->what, &c, &m, u->steps, u->after.l, u->after.u);
+    }
+}
+
+static void check_non_finite_update(const struct update *u, size_t place) {
+    struct memory m;
+    for (size_t k = 0; k < COUNT(more_doubles); k++) {
+        struct managed c = prepare_update(&m, u, more_doubles[k]);
+        check_non_finite(u->what, c, &m, place);
     }
 }
 
@@ -223,7 +233,7 @@ static void check_diagonal(size_t n, const size_t *choice) {
 }
 
 /* An infinity and a NaN that are active, but not on U's diagonal. */
-static void check_off_diagonal(int function) {
+static void check_off_diagonal(int function, const double *solution) {
     struct memory m;
     struct managed c = make_managed(function, 2, 4);
     put_diagonal(&m, &c, (size_t[]){0, 0});
@@ -232,7 +242,7 @@ static void check_off_diagonal(int function) {
     if (function == READY) {
         check_ready(c, &m, 1);
     } else {
-        check_managed_solve("infinity and NaN beside the diagonal", c, &m, NULL);
+        check_managed_solve("infinity and NaN beside the diagonal", c, &m, solution);
     }
 }
 
@@ -245,9 +255,9 @@ static void diagonals(void) {
     for (size_t k = 0; k < 27; k++) {
         check_diagonal(3, (size_t[]){some[k / 9], some[k / 3 % 3], some[k % 3]});
     }
-    check_off_diagonal(SOLVE);
-    check_off_diagonal(SOLVE_TRANSPOSE);
-    check_off_diagonal(READY);
+    check_off_diagonal(SOLVE, (double[]){NAN, 1});
+    check_off_diagonal(SOLVE_TRANSPOSE, (double[]){NAN, NAN});
+    check_off_diagonal(READY, NULL);
     end_group();
 }
 
@@ -318,11 +328,11 @@ static void bare_blocks(void) {
     begin_group("heap blocks that were never filled");
     check_number("push",
                  lumod_push(&n, 3, l, 12, u, 6, y, 1, z, 1, w, 1, row, 0, column, 0, 2,
-                            &counter, &steps),
+                            &counter, &steps, &index),
                  LUMOD_OK);
     check_number("push",
                  lumod_push(&n, 3, l, 12, u, 6, y, 2, z, 2, w, 2, row, 1, column, 1, 1,
-                            &counter, &steps),
+                            &counter, &steps, &index),
                  LUMOD_OK);
     check_number("solve", lumod_solve(n, 3, l, 12, u, 6, rhs, 2, &index), LUMOD_OK);
     check_number("solution is (1,1)", rhs[0] == 1 && rhs[1] == 1, 1);
@@ -332,12 +342,12 @@ static void bare_blocks(void) {
     check_number("solution is (1,1)", rhs[0] == 1 && rhs[1] == 1, 1);
     check_number("replace row",
                  lumod_replace_row(n, 3, l, 12, u, 6, y, 2, z, 2, w, 2, 0, (double[]){1, 1}, 2,
-                                   &counter, &steps),
+                                   &counter, &steps, &index),
                  LUMOD_OK);
     check_number("U is 4,1,0.75", u[0] == 4 && u[1] == 1 && u[3] == 0.75, 1);
     check_number("replace column",
                  lumod_replace_column(n, 3, l, 12, u, 6, y, 2, z, 2, w, 2, 1, column, 2,
-                                      &counter, &steps),
+                                      &counter, &steps, &index),
                  LUMOD_OK);
     check_number("remove",
                  lumod_remove(&n, 3, l, 12, u, 6, y, 2, z, 2, w, 2, 0, 0, &moved_row,
@@ -350,10 +360,37 @@ static void bare_blocks(void) {
     end_group();
 }
 
+/* The same where data are refused, which are blocks exactly as long too. */
+static void bare_refusals(void) {
+    double *l = block(12), *u = block(6), *y = block(3), *z = block(3), *w = block(3);
+    double *row = block(2), *column = block(2);
+    size_t n = 2, index, counter = 0, steps;
+    begin_group("heap blocks that were never filled: refused data");
+    row[0] = 4, row[1] = 1, column[0] = 6, column[1] = INFINITY;
+    check_number("push",
+                 lumod_push(&n, 3, l, 12, u, 6, y, 3, z, 3, w, 3, row, 2, column, 2, 1,
+                            &counter, &steps, &index),
+                 LUMOD_NON_FINITE_DATA);
+    check_number("*index", index, 3);
+    check_number("replace column",
+                 lumod_replace_column(n, 3, l, 12, u, 6, y, 2, z, 2, w, 2, 0, column, 2,
+                                      &counter, &steps, &index),
+                 LUMOD_NON_FINITE_DATA);
+    check_number("*index", index, 1);
+    row[0] = NAN;
+    check_number("replace row",
+                 lumod_replace_row(n, 3, l, 12, u, 6, y, 2, z, 2, w, 2, 1, row, 2, &counter,
+                                   &steps, &index),
+                 LUMOD_NON_FINITE_DATA);
+    check_number("*index", index, 0);
+    free(l), free(u), free(y), free(z), free(w), free(row), free(column);
+    end_group();
+}
+
 int main(void) {
     /* E is 2^-52. */
-    static const struct family managed = {0x1p-52, check_known_update, check_known_product,
-                                          check_known_substitution};
+    static const struct family managed = {0x1p-52, check_known_update, check_non_finite_update,
+                                          check_known_product, check_known_substitution};
     setvbuf(stdout, NULL, _IOLBF, BUFSIZ);
     lengths();
     check_known_results(&managed);
@@ -363,8 +400,10 @@ int main(void) {
     empty();
     adoption();
     bare_blocks();
+    bare_refusals();
     check_kept_matrix();
     check_counter();
+    check_data();
     check_managed_refusals();
     return end_checks();
 }

@@ -2,10 +2,21 @@
 
 #include <stdio.h>
 
+const char *const function_names[FUNCTIONS] = {
+    [PUSH] = "push",
+    [REPLACE_COLUMN] = "replace column",
+    [REPLACE_ROW] = "replace row",
+    [REMOVE] = "remove",
+    [SOLVE] = "solve",
+    [SOLVE_TRANSPOSE] = "transpose solve",
+    [FROM_STORAGE] = "adopt",
+    [READY] = "ready",
+};
+
 struct managed make_managed(int function, size_t n, size_t c) {
     struct managed call = {.function = function, .n = n, .c = c};
     call.index = call.moved_row = call.moved_column = call.steps = UNREPORTED;
-    call.ready = UNREPORTED;
+    call.ready = (uint8_t)UNREPORTED;
     return call;
 }
 
@@ -21,6 +32,13 @@ void prepare_next(struct memory *m, const struct managed *c, size_t more) {
     struct memory before = *m;
     prepare_managed(m, c, more);
     copy_active(m, &before, c->c, c->n);
+}
+
+struct managed prepare_numbered(struct memory *m, int function, size_t n, size_t c) {
+    struct managed call = make_managed(function, n, c);
+    prepare_managed(m, &call, 0);
+    number_all(m);
+    return call;
 }
 
 struct managed call_of(const struct update *u) {
@@ -49,6 +67,20 @@ struct managed prepare_update(struct memory *m, const struct update *u, size_t m
     return c;
 }
 
+size_t lent_values(const struct managed *c) {
+    return c->function == PUSH ? 2 * c->n + 1 : c->n;
+}
+
+double *lent_at(struct managed *c, struct memory *m, size_t place) {
+    if (c->function == REPLACE_COLUMN) {
+        return buffer_at(m, COLUMN, place);
+    }
+    if (c->function == REPLACE_ROW || place < c->n) {
+        return buffer_at(m, ROW, place);
+    }
+    return place < 2 * c->n ? buffer_at(m, COLUMN, place - c->n) : &c->diagonal;
+}
+
 /* A buffer as two arguments. */
 #define LEND(b) buffer_at(m, b, 0), m->length[b]
 
@@ -56,13 +88,13 @@ static uint32_t call_managed(struct managed *c, struct memory *m) {
     switch (c->function) {
     case PUSH:
         return lumod_push(&c->n, c->c, LEND(L), LEND(U), LEND(Y), LEND(Z), LEND(W), LEND(ROW),
-                          LEND(COLUMN), c->diagonal, &c->counter, &c->steps);
+                          LEND(COLUMN), c->diagonal, &c->counter, &c->steps, &c->index);
     case REPLACE_COLUMN:
         return lumod_replace_column(c->n, c->c, LEND(L), LEND(U), LEND(Y), LEND(Z), LEND(W),
-                                    c->column, LEND(COLUMN), &c->counter, &c->steps);
+                                    c->column, LEND(COLUMN), &c->counter, &c->steps, &c->index);
     case REPLACE_ROW:
         return lumod_replace_row(c->n, c->c, LEND(L), LEND(U), LEND(Y), LEND(Z), LEND(W),
-                                 c->row, LEND(ROW), &c->counter, &c->steps);
+                                 c->row, LEND(ROW), &c->counter, &c->steps, &c->index);
     case REMOVE:
         return lumod_remove(&c->n, c->c, LEND(L), LEND(U), LEND(Y), LEND(Z), LEND(W), c->row,
                             c->column, &c->moved_row, &c->moved_column, &c->counter, &c->steps);
@@ -119,6 +151,12 @@ void check_kept(const char *what, struct managed c, struct memory *m, uint32_t n
         check_numbers(what, returned, &call, number, &after);
     }
     check_memory(what, m, &before);
+}
+
+void check_non_finite(const char *what, struct managed c, struct memory *m, size_t place) {
+    struct managed after = c;
+    after.index = place;
+    check_kept(what, c, m, LUMOD_NON_FINITE_DATA, after);
 }
 
 /* The limit of an update's pair steps. */
@@ -184,6 +222,7 @@ void check_managed_solve(const char *what, struct managed c, struct memory *m,
     uint32_t returned = call_managed(&c, m);
     check_numbers(what, returned, &c, LUMOD_OK, &after);
     put(&expected, RHS, c.n, solution ? solution : buffer_at(m, RHS, 0));
+    allow_nans(&expected, m, RHS, c.n);
     allow_scratch(&expected, m, L, c.c * c.c, c.n);
     check_memory(what, m, &expected);
 }

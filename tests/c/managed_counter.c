@@ -1,5 +1,6 @@
 #include "managed_counter.h"
 
+#include <float.h>
 #include <math.h>
 
 #include "managed_calls.h"
@@ -32,13 +33,13 @@ static const struct update updates[] = {
      .row_data = zeros,
      .column_data = data,
      .before = {unit_l, unit_u}},
-    {.what = "identity, push a row with a NaN, which passes Forward",
+    {.what = "push a row that becomes NaN by U(0,1), which passes Forward",
      .kind = PUSH,
      .n = 3,
-     .row_data = (const double[]){1, NAN, 1},
+     .row_data = (const double[]){1, 1, 1},
      .column_data = data,
      .steps = 2,
-     .before = {unit_l, unit_u}},
+     .before = {unit_l, (const double[]){1, NAN, 0, 1, 0, 1}}},
     {.what = "identity, replace row 0, where Backward trims to row 0",
      .kind = REPLACE_ROW,
      .n = 3,
@@ -50,12 +51,18 @@ static const struct update updates[] = {
      .column = 2,
      .column_data = data,
      .before = {dense_l, dense_u}},
-    {.what = "identity, replace column 0 by (1,NaN,1), which Backward eliminates",
+    {.what = "replace column 0, NaN by L's column 1, which Backward eliminates",
      .kind = REPLACE_COLUMN,
      .n = 3,
-     .column_data = (const double[]){1, NAN, 1},
+     .column_data = data,
      .steps = 1,
-     .before = {unit_l, unit_u}},
+     .before = {(const double[]){1, NAN, 0, 0, NAN, 0, 0, NAN, 1}, unit_u}},
+    {.what = "replace column 0, NaN by sums that overflow, which Backward eliminates",
+     .kind = REPLACE_COLUMN,
+     .n = 3,
+     .column_data = (const double[]){DBL_MAX, DBL_MAX, 1},
+     .steps = 1,
+     .before = {(const double[]){2, -2, 0, 2, -2, 0, 2, -2, 1}, unit_u}},
     {.what = "identity, replace column 0 by (1,1,0,1), where Backward skips row 2",
      .kind = REPLACE_COLUMN,
      .n = 4,

@@ -15,6 +15,7 @@ enum {
     PUSHES = 1 << PUSH,
     TAKE_ROW = PUSHES | 1 << REPLACE_ROW,
     TAKE_COLUMN = PUSHES | 1 << REPLACE_COLUMN,
+    TAKE_DATA = TAKE_ROW | TAKE_COLUMN,
     INDEX_ROW = 1 << REPLACE_ROW | 1 << REMOVE,
     INDEX_COLUMN = 1 << REPLACE_COLUMN | 1 << REMOVE,
     UPDATES = PUSHES | INDEX_ROW | INDEX_COLUMN,
@@ -22,19 +23,9 @@ enum {
     ALL = UPDATES | SOLVES | 1 << FROM_STORAGE | 1 << READY
 };
 
-static const char *const function_names[FUNCTIONS] = {
-    [PUSH] = "push",
-    [REPLACE_COLUMN] = "replace column",
-    [REPLACE_ROW] = "replace row",
-    [REMOVE] = "remove",
-    [SOLVE] = "solve",
-    [SOLVE_TRANSPOSE] = "transpose solve",
-    [FROM_STORAGE] = "adopt",
-    [READY] = "ready",
-};
-
 /* What a fault changes. */
 enum {
+    LENT_NAN,     /* what is lent becomes NaN at a place, which is the value */
     CAPACITY,     /* c becomes the value */
     DIMENSION,    /* n becomes c and the value */
     FULL,         /* n becomes c, and the lengths are right for a push */
@@ -55,8 +46,14 @@ struct fault {
 };
 
 /* In this order, two faults of different numbers can be applied one after the
- * other and both hold. */
+ * other and both hold, unless a NaN is past the end of a row or column that
+ * becomes shorter. Of two NaNs the first in this order has the first place. */
 static const struct fault faults[] = {
+    {"NaN at place 0", LUMOD_NON_FINITE_DATA, TAKE_DATA, LENT_NAN, 0},
+    {"NaN at place 1", LUMOD_NON_FINITE_DATA, TAKE_DATA, LENT_NAN, 1},
+    {"NaN at place 2", LUMOD_NON_FINITE_DATA, PUSHES, LENT_NAN, N},
+    {"NaN at place 3", LUMOD_NON_FINITE_DATA, PUSHES, LENT_NAN, N + 1},
+    {"NaN as diagonal", LUMOD_NON_FINITE_DATA, PUSHES, LENT_NAN, 2 * N},
     {"c = 2^32", LUMOD_SIZE_OVERFLOW, ALL, CAPACITY, TWO_TO_32},
     {"c = 2^32 + 3", LUMOD_SIZE_OVERFLOW, ALL, CAPACITY, TWO_TO_32 + C},
     {"c = 2^63", LUMOD_SIZE_OVERFLOW, ALL, CAPACITY, SIZE_MAX / 2 + 1},
@@ -100,6 +97,9 @@ static const struct fault faults[] = {
 
 static void apply(const struct fault *f, struct managed *c, struct memory *m) {
     switch (f->change) {
+    case LENT_NAN:
+        *lent_at(c, m, f->value) = NAN;
+        break;
     case CAPACITY:
         c->c = f->value;
         break;
@@ -126,10 +126,8 @@ static void apply(const struct fault *f, struct managed *c, struct memory *m) {
         c->column = c->n + f->value;
         break;
     case ZERO:
-        *u_at(m, C, f->value, f->value) = -0.0;
-        break;
     case NAN_ENTRY:
-        *u_at(m, C, f->value, f->value) = NAN;
+        *u_at(m, C, f->value, f->value) = f->change == ZERO ? -0.0 : NAN;
         break;
     default:
         m->length[f->change - LENGTH] = f->value;
@@ -137,17 +135,16 @@ static void apply(const struct fault *f, struct managed *c, struct memory *m) {
 }
 
 static struct managed right_call(int function, struct memory *m) {
-    struct managed c = make_managed(function, N, C);
-    prepare_managed(m, &c, 0);
-    number_all(m);
-    return c;
+    return prepare_numbered(m, function, N, C);
 }
 
-/* With 9 and 10 the value of the fault is the index of the diagonal entry. */
+/* With 9 and 10 the value of the fault is the index of the diagonal entry, with
+ * 23 the place. */
 static void expect_refused(const char *what, struct managed c, struct memory *m,
                            const struct fault *f) {
     struct managed after = c;
-    if (f->number == LUMOD_SINGULAR || f->number == LUMOD_NON_FINITE_DIAGONAL) {
+    if (f->number == LUMOD_SINGULAR || f->number == LUMOD_NON_FINITE_DIAGONAL ||
+        f->number == LUMOD_NON_FINITE_DATA) {
         after.index = f->value;
     }
     check_kept(what, c, m, f->number, after);
@@ -164,6 +161,7 @@ static const uint32_t order[] = {
     LUMOD_ROW_OUT_OF_BOUNDS,
     LUMOD_COLUMN_OUT_OF_BOUNDS,
     LUMOD_LENGTH_MISMATCH,
+    LUMOD_NON_FINITE_DATA,
     LUMOD_INSUFFICIENT_WORKSPACE,
     LUMOD_SINGULAR,
     LUMOD_NON_FINITE_DIAGONAL,
@@ -181,9 +179,13 @@ static const struct fault *tested_first(const struct fault *a, const struct faul
     abort();
 }
 
-/* Two changes of one thing are no two faults, and n is not both c and more. */
+/* Two changes of one thing are no two faults, and n is not both c and more. Two
+ * places are two things. */
 static int apart(const struct fault *a, const struct fault *b) {
-    return a == b || (a->change != b->change && !(a->change == DIMENSION && b->change == FULL));
+    if (a == b || a->change == LENT_NAN) {
+        return 1;
+    }
+    return a->change != b->change && !(a->change == DIMENSION && b->change == FULL);
 }
 
 static void check_faults(int function, const struct fault *a, const struct fault *b) {

@@ -19,8 +19,8 @@ uint32_t call_lumod(struct call c, struct memory *m);
 uint32_t call_lprod(struct call c, struct memory *m);
 uint32_t call_usolve(struct call c, struct memory *m);
 
-/* An accepted LUmod that leaves the factors l and u. A NaN in them stands for
- * every NaN. */
+/* Accepted calls, and the factors, the product or the solution that they leave. A
+ * NaN in these stands for every NaN. */
 void check_update(const char *what, struct call c, struct memory *m, const double *l,
                   const double *u);
 void check_product(const char *what, struct call c, struct memory *m, const double *product);

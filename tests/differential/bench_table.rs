@@ -1,6 +1,7 @@
 //! Document 01's bench table, row by row, with the values that it gives; then the
-//! calls of the lines beside it (`TrapTable` in crates/machine/specs/BenchTable.antt).
-//! Its rows on pairs are calls whose one pair step has that pair.
+//! calls of the lines beside it (`TrapTable` in crates/machine/specs/BenchTable.antt);
+//! then calls with infinities and NaNs. Its rows on pairs are calls whose one pair step
+//! has that pair.
 
 use crate::buffers::{Buffers, Name};
 use crate::calls::End;
@@ -10,6 +11,7 @@ use Left::*;
 use Operation::*;
 
 const NAN: f64 = f64::NAN;
+const INFINITY: f64 = f64::INFINITY;
 
 /// 8191 × 2^-65, which lies between the two E's.
 const BETWEEN: f64 = 8191.0 / (1u128 << 65) as f64;
@@ -145,7 +147,22 @@ const fn row(what: &'static str, start: Start, call: Operation, left: &'static [
     }
 }
 
+const fn managed(row: Row) -> Row {
+    Row {
+        interface: Interface::Managed,
+        ..row
+    }
+}
+
+const fn zero_based(row: Row) -> Row {
+    Row {
+        interface: Interface::ZeroBased,
+        ..row
+    }
+}
+
 const TWO: Start = pushes(&[first(2.0)]);
+const TWO_LEFT: Factors = factors(1, &[1.0], &[2.0]);
 const P: Start = pushes(&[first(2.0), second(&[4.0], &[6.0])]);
 const Q: Start = pushes(&[first(2.0), second(&[1.0], &[6.0])]);
 const M: Start = holding(factors(
@@ -172,6 +189,14 @@ const IDENTITY_4: Start = holding(factors(
 ));
 /// L's column 0 is 0, NaN.
 const NAN_IN_L: Start = holding(factors(2, &[0.0, 1.0, NAN, 0.0], &[2.0, 1.0, 3.0]));
+const NAN_ON_DIAGONAL: Start = holding(factors(1, &[1.0], &[NAN]));
+const NAN_BESIDE_DIAGONAL: Start = holding(factors(2, &[1.0, 0.0, 0.0, 1.0], &[2.0, NAN, 3.0]));
+/// An L product has a NaN at 1.
+const NAN_IN_PRODUCT: Start = holding(factors(
+    3,
+    &[1.0, 0.0, 0.0, 0.0, NAN, 0.0, 0.0, 0.0, 1.0],
+    &[1.0, 0.0, 0.0, 1.0, 0.0, 1.0],
+));
 
 const TABLE: [Row; 11] = [
     row(
@@ -331,13 +356,13 @@ const BESIDE: [Row; 12] = [
         Remove { row: 1, column: 0 },
         &[Moved(None, Some(1))],
     ),
-    row(
+    zero_based(row(
         "a NaN passes Forward untouched",
         TWO,
         second(&[NAN], &[6.0]),
         &[All(factors(2, &[1.0, 0.0, 0.0, 1.0], &[2.0, 6.0, 1.0]))],
-    ),
-    row(
+    )),
+    zero_based(row(
         "a NaN does not pass Backward",
         IDENTITY_3,
         ReplaceColumn {
@@ -345,7 +370,7 @@ const BESIDE: [Row; 12] = [
             values: &[1.0, NAN, 1.0],
         },
         &[EntryOfU(1, 1, NAN)],
-    ),
+    )),
     row(
         "dense(row) is cleared also where Backward skips the row",
         IDENTITY_4,
@@ -357,35 +382,107 @@ const BESIDE: [Row; 12] = [
     ),
 ];
 
+/// The managed calls meet a NaN at their guards in factors that hold one. Among data they
+/// refuse it.
+const MANAGED_NANS: [Row; 8] = [
+    managed(row(
+        "a NaN on U's diagonal passes Forward untouched",
+        NAN_ON_DIAGONAL,
+        second(&[4.0], &[6.0]),
+        &[All(factors(2, &[1.0, 0.0, 0.0, 1.0], &[NAN, 6.0, 1.0]))],
+    )),
+    managed(row(
+        "a NaN that U gives passes Forward untouched",
+        NAN_BESIDE_DIAGONAL,
+        Push {
+            row: &[1.0, 1.0],
+            column: &[0.0, 0.0],
+            diagonal: 1.0,
+        },
+        &[All(factors(
+            3,
+            &[1.0, 0.0, 0.0, 0.0, 1.0, 0.0, -0.5, 0.0, 1.0],
+            &[2.0, NAN, 0.0, 3.0, 0.0, 1.0],
+        ))],
+    )),
+    managed(row(
+        "a NaN that L gives does not pass Backward",
+        NAN_IN_PRODUCT,
+        ReplaceColumn {
+            column: 0,
+            values: &[1.0, 1.0, 1.0],
+        },
+        &[EntryOfU(1, 1, NAN)],
+    )),
+    managed(row(
+        "a NaN in a pushed row",
+        TWO,
+        second(&[NAN], &[INFINITY]),
+        &[Refused(23, 0), All(TWO_LEFT)],
+    )),
+    managed(row(
+        "an infinity in a pushed column",
+        TWO,
+        second(&[4.0], &[INFINITY]),
+        &[Refused(23, 1), All(TWO_LEFT)],
+    )),
+    managed(row(
+        "a negative infinity as a pushed diagonal",
+        TWO,
+        Push {
+            row: &[4.0],
+            column: &[6.0],
+            diagonal: -INFINITY,
+        },
+        &[Refused(23, 2), All(TWO_LEFT)],
+    )),
+    managed(row(
+        "a NaN in the values of replace row",
+        IDENTITY_3,
+        ReplaceRow {
+            row: 0,
+            values: &[1.0, 1.0, NAN],
+        },
+        &[Refused(23, 2), All(IDENTITY_3.factors)],
+    )),
+    managed(row(
+        "a NaN in the values of replace column",
+        IDENTITY_3,
+        ReplaceColumn {
+            column: 0,
+            values: &[1.0, NAN, NAN],
+        },
+        &[Refused(23, 1), All(IDENTITY_3.factors)],
+    )),
+];
+
 /// Each interface has its own E.
 const EPSILONS: [Row; 2] = [
-    Row {
-        interface: Interface::Managed,
-        ..row(
-            "8191 x 2^-65 passes Forward at E = 2^-52",
-            pushes(&[first(1.0)]),
-            second(&[BETWEEN], &[0.0]),
-            &[All(factors(2, &[1.0, 0.0, 0.0, 1.0], &[1.0, 0.0, 1.0]))],
-        )
-    },
-    Row {
-        interface: Interface::ZeroBased,
-        ..row(
-            "8191 x 2^-65 is eliminated at E = 2.22e-16",
-            pushes(&[first(1.0)]),
-            second(&[BETWEEN], &[0.0]),
-            &[All(factors(
-                2,
-                &[1.0, 0.0, -BETWEEN, 1.0],
-                &[1.0, 0.0, 1.0],
-            ))],
-        )
-    },
+    managed(row(
+        "8191 x 2^-65 passes Forward at E = 2^-52",
+        pushes(&[first(1.0)]),
+        second(&[BETWEEN], &[0.0]),
+        &[All(factors(2, &[1.0, 0.0, 0.0, 1.0], &[1.0, 0.0, 1.0]))],
+    )),
+    zero_based(row(
+        "8191 x 2^-65 is eliminated at E = 2.22e-16",
+        pushes(&[first(1.0)]),
+        second(&[BETWEEN], &[0.0]),
+        &[All(factors(
+            2,
+            &[1.0, 0.0, -BETWEEN, 1.0],
+            &[1.0, 0.0, 1.0],
+        ))],
+    )),
 ];
 
 /// The rows that an interface has calls for.
 pub fn rows(interface: Interface) -> impl Iterator<Item = Row> {
-    let all = TABLE.into_iter().chain(BESIDE).chain(EPSILONS);
+    let all = TABLE
+        .into_iter()
+        .chain(BESIDE)
+        .chain(MANAGED_NANS)
+        .chain(EPSILONS);
     all.filter(move |row| [Interface::Both, interface].contains(&row.interface))
 }
 

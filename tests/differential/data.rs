@@ -195,6 +195,29 @@ fn nan(random: &mut Random) -> f64 {
     f64::from_bits(0x7ff0_0000_0000_0001 | (random.bits() >> 12))
 }
 
+/// An infinity or a NaN, of either sign.
+pub fn non_finite_value(random: &mut Random) -> f64 {
+    let next_to_infinity = f64::from_bits(0x7ff0_0000_0000_0001);
+    let any = nan(random);
+    let magnitude = random.pick(&[f64::INFINITY, f64::NAN, next_to_infinity, any, any]);
+    random.sign(magnitude)
+}
+
+/// A finite value in place of each infinity and NaN: of any kind, or of the largest magnitude.
+pub fn make_finite(values: &mut [f64], random: &mut Random) {
+    const KINDS: [Kind; 6] = [Uniform, SmallInteger, Tolerance, Subnormal, Extreme, Zero];
+    for entry in values.iter_mut().filter(|entry| !entry.is_finite()) {
+        let any = value(random.pick(&KINDS), random);
+        *entry = random.pick(&[any, any, any, f64::MAX, -f64::MAX]);
+    }
+}
+
+/// A NaN, an infinity, a zero or a subnormal.
+pub fn odd_value(random: &mut Random) -> f64 {
+    let kind = random.pick(&[Nan, Nan, Infinity, Zero, Subnormal]);
+    value(kind, random)
+}
+
 /// What unused storage and workspaces hold: often NaNs, each with a payload of
 /// its own, so that a read shows and so does a write.
 pub fn unused_value(random: &mut Random) -> f64 {

@@ -1,7 +1,7 @@
 //! Factors and vectors that a call is given.
 
 use crate::buffers::{Buffers, Name};
-use crate::data::{unused_value, Profile};
+use crate::data::{odd_value, unused_value, Profile};
 use crate::places::{active, diagonal, l_place, u_place};
 use crate::random::Random;
 
@@ -28,6 +28,15 @@ pub fn fill_factors(
         for j in i..n {
             u[u_place(stride, i, j)] = profile.value(random);
         }
+    }
+}
+
+/// NaNs, infinities, zeros and subnormals in place of some of the active entries.
+pub fn put_odd_entries(buffers: &mut Buffers, stride: usize, n: usize, random: &mut Random) {
+    let places: Vec<_> = active(stride, n).collect();
+    for _ in 0..random.below(n + 1) {
+        let (name, place) = random.pick(&places);
+        buffers[name].slice_mut()[place] = odd_value(random);
     }
 }
 

@@ -2,7 +2,7 @@
 use mathlib.Core.Path.{_≡_, refl}
 use Prim.Native.Nat.{ℕ}
 use Rattle.refusals.specs.declared.Refusal.{Refusal}
-use Rattle.refusals.specs.declared.Refusal.the-variants.{InvalidDimension, SizeOverflow, InsufficientL, InsufficientU, UnequalWorkspaces, CapacityExceeded, RowOutOfBounds, ColumnOutOfBounds, LengthMismatch, InsufficientWorkspace, Singular, NonFiniteDiagonal}
+use Rattle.refusals.specs.declared.Refusal.the-variants.{InvalidDimension, SizeOverflow, InsufficientL, InsufficientU, UnequalWorkspaces, CapacityExceeded, RowOutOfBounds, ColumnOutOfBounds, LengthMismatch, NonFiniteData, InsufficientWorkspace, Singular, NonFiniteDiagonal}
 use Rattle.refusals.specs.Refusal.{refusalOf}
 use Rattle.answers.specs.Numbers.{movedRowAfter, movedColumnAfter}
 
@@ -16,6 +16,7 @@ refusal-moves-nothing CapacityExceeded row column = (refl, refl)
 refusal-moves-nothing RowOutOfBounds row column = (refl, refl)
 refusal-moves-nothing ColumnOutOfBounds row column = (refl, refl)
 refusal-moves-nothing LengthMismatch row column = (refl, refl)
+refusal-moves-nothing (NonFiniteData i) row column = (refl, refl)
 refusal-moves-nothing InsufficientWorkspace row column = (refl, refl)
 refusal-moves-nothing (Singular i) row column = (refl, refl)
 refusal-moves-nothing (NonFiniteDiagonal i) row column = (refl, refl)

@@ -3,7 +3,7 @@ use mathlib.Core.Option.{Option, none, some}
 use Prim.Native.Nat.{ℕ, _-_, _^_}
 use Rattle.machine.specs.Calls.{Answer, done, moved, refused, refusedAt}
 
--- the index, which is written with 9 and 10 alone
+-- the index, which is written with 9, 10 and 23 alone
 abbrev pub indexAfter : Answer → ℕ → ℕ
 indexAfter done old = old
 indexAfter (moved r k) old = old

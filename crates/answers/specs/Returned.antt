@@ -15,7 +15,3 @@ pub record Returned (F : Format) (c : Call Float) (s t : Instance Float) (b : Li
   pub outcome : ManagedOutcome F c s t (report answer b k)
   pub is-number : number ≡ numberOf answer
   pub out : Out answer
-
--- the calls without an out-parameter of their own
-abbrev pub NoOut : Answer → Type 0
-NoOut a = Unit {0}

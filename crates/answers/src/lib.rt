@@ -20,7 +20,7 @@ pub fn answer_number(answer: Answer) -> u32
     }
 }
 
-// The index that a refused solve names, or else `old`.
+// The index that a refusal names, of a diagonal or of a place in the data, or else `old`.
 pub fn named_index(answer: Answer, old: usize) -> usize
     ensures { λ r. ⌜ r ≡ indexAfter (answerOf answer) old ⌝ }
 {
@@ -37,6 +37,7 @@ pub fn named_index(answer: Answer, old: usize) -> usize
         Refusal::RowOutOfBounds => old,
         Refusal::ColumnOutOfBounds => old,
         Refusal::LengthMismatch => old,
+        Refusal::NonFiniteData(i) => i,
         Refusal::InsufficientWorkspace => old,
         Refusal::Singular(i) => i,
         Refusal::NonFiniteDiagonal(i) => i,

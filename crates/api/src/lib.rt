@@ -263,7 +263,8 @@ impl LuMod {
     }
 
     // Appends a row and a column to the matrix; `diagonal` is the entry where they meet. The dimension grows by one. CapacityExceeded where it is the
-    // capacity, LengthMismatch where row or column has another length than the dimension, InsufficientWorkspace where the workspaces have no more.
+    // capacity, LengthMismatch where row or column has another length than the dimension, NonFiniteData where a value is infinite or NaN, with the first such
+    // place, counted from 0 through row, column and diagonal, InsufficientWorkspace where the workspaces are no longer than the dimension.
     pub fn push(
         self,
         l: &mut [f64],
@@ -284,7 +285,7 @@ impl LuMod {
     }
 
     // Replaces a row of the matrix. RowOutOfBounds where there is no such row, LengthMismatch where values has another length than the dimension,
-    // InsufficientWorkspace where the workspaces are shorter.
+    // NonFiniteData where a value is infinite or NaN, with the first such place, InsufficientWorkspace where the workspaces are shorter.
     pub fn replace_row(
         self,
         l: &mut [f64],
@@ -304,7 +305,7 @@ impl LuMod {
     }
 
     // Replaces a column of the matrix. ColumnOutOfBounds where there is no such column, LengthMismatch where values has another length than the dimension,
-    // InsufficientWorkspace where the workspaces are shorter.
+    // NonFiniteData where a value is infinite or NaN, with the first such place, InsufficientWorkspace where the workspaces are shorter.
     pub fn replace_column(
         self,
         l: &mut [f64],

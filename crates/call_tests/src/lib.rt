@@ -8,10 +8,14 @@ ghost use lib.Ieee.{binary64};
 ghost use Rattle.numbers.specs.NumberForm.{ieee};
 ghost use Rattle.machine.specs.Solves.{diagonals};
 ghost use Rattle.machine.specs.Calls.{_orElse_};
+ghost use Rattle.machine.specs.Calls as calls;
+ghost use Rattle.machine.specs.LentData.{firstNonFinite, dataTest};
 ghost use Rattle.machine.specs.Machine.{pushTests, replacementTests, removeTests, rhsTest};
 ghost use Rattle.storage.specs.Views.{viewU};
 ghost use Rattle.managed.specs.Refusals.{capacityTest, updateTests, solveTests};
 ghost use Rattle.refusals.specs.Refusal.{refusalOf, testOf};
+use lent_data::test_push_data;
+use lent_data::test_values;
 use managed::LentLengths;
 use refusals::Refusal;
 use refusals::Test;
@@ -19,9 +23,17 @@ use refusals::test_diagonals;
 use refusals::test_lent;
 use refusals::test_storage;
 
-// Push, with the lengths of its row and column: 4, 7, 8.
-pub fn test_push(n: usize, capacity: usize, lent: LentLengths, row: usize, column: usize) -> Test
-    ensures { λ r. ⌜ testOf r ≡ updateTests n capacity lent (capacityTest n capacity) (pushTests n row column) (n + 1) ⌝ }
+// Push: 4, 7, 23, 8.
+pub fn test_push(
+    n: usize,
+    capacity: usize,
+    lent: LentLengths,
+    row: &[f64],
+    column: &[f64],
+    diagonal: f64,
+) -> Test
+    ensures { λ r. ⌜ testOf r ≡ updateTests n capacity lent (capacityTest n capacity) (pushTests n (length (now (row .entry))) (length (now (column .entry))))
+        (dataTest (ieee binary64) (calls.push (now (row .entry)) (now (column .entry)) diagonal)) (n + 1) ⌝ }
 {
     let test = test_lent(n, capacity, lent);
     let Test::Passed = test else {
@@ -30,28 +42,33 @@ pub fn test_push(n: usize, capacity: usize, lent: LentLengths, row: usize, colum
     if n == capacity {
         return Test::Refused(Refusal::CapacityExceeded);
     }
-    if row != n {
+    if row.len() != n {
         return Test::Refused(Refusal::LengthMismatch);
     }
-    if column != n {
+    if column.len() != n {
         return Test::Refused(Refusal::LengthMismatch);
     }
+    let data = test_push_data(row, column, diagonal);
+    let Test::Passed = data else {
+        return data;
+    };
     if lent.y <= n {
         return Test::Refused(Refusal::InsufficientWorkspace);
     }
     Test::Passed
 }
 
-// Replace row or column, with the length of its values: 5 or 6, which is `outside`, then 7, 8.
+// Replace row or column: 5 or 6, which is `outside`, then 7, 23, 8.
 pub fn test_replacement(
     n: usize,
     capacity: usize,
     lent: LentLengths,
     index: usize,
     outside: Refusal,
-    values: usize,
+    values: &[f64],
 ) -> Test
-    ensures { λ r. ⌜ testOf r ≡ updateTests n capacity lent none (replacementTests n index (refusalOf outside) values) n ⌝ }
+    ensures { λ r. ⌜ testOf r ≡ updateTests n capacity lent none (replacementTests n index (refusalOf outside) (length (now (values .entry))))
+        (firstNonFinite (ieee binary64) 0 (now (values .entry))) n ⌝ }
 {
     let test = test_lent(n, capacity, lent);
     let Test::Passed = test else {
@@ -60,9 +77,13 @@ pub fn test_replacement(
     if index >= n {
         return Test::Refused(outside);
     }
-    if values != n {
+    if values.len() != n {
         return Test::Refused(Refusal::LengthMismatch);
     }
+    let finite = test_values(values, 0);
+    let Test::Passed = finite else {
+        return finite;
+    };
     if lent.y < n {
         return Test::Refused(Refusal::InsufficientWorkspace);
     }
@@ -71,7 +92,7 @@ pub fn test_replacement(
 
 // Remove: 5, 6, 8.
 pub fn test_remove(n: usize, capacity: usize, lent: LentLengths, row: usize, column: usize) -> Test
-    ensures { λ r. ⌜ testOf r ≡ updateTests n capacity lent none (removeTests n row column) n ⌝ }
+    ensures { λ r. ⌜ testOf r ≡ updateTests n capacity lent none (removeTests n row column) none n ⌝ }
 {
     let test = test_lent(n, capacity, lent);
     let Test::Passed = test else {

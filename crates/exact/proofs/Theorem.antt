@@ -12,8 +12,10 @@ use Rattle.numbers.specs.NumberForm.{NumberForm}
 use Rattle.machine.specs.Tables.{Table, State}
 use Rattle.machine.specs.Products.{product}
 use Rattle.machine.specs.Calls.{Call, push, replaceRow, replaceColumn, remove, solve, solveTranspose, Answer, refused, numberOf}
-use Rattle.machine.specs.Machine.{refusal, accepted, stepUnder, step, run}
-use Rattle.machine.proofs.Refusals.{or-else-none, index-within}
+use Rattle.machine.specs.LentData.{lentData, dataTest}
+use Rattle.machine.specs.Machine.{indexTests, refusal, accepted, stepUnder, step, run}
+use Rattle.machine.proofs.Refusals.{or-else-none, index-within, refusal-passed}
+use Rattle.machine.proofs.LentData.{none-if-finite}
 use Rattle.machine.proofs.Numbered.{refusal-above-zero, accepted-is-0}
 use Rattle.exact.specs.Fractions.{Fraction, whole, Undefined, fractions}
 use Rattle.exact.specs.Matrix.{Matrix, updated, updatedBy, matrixOf}
@@ -66,8 +68,8 @@ module _ {N : NumberForm} (Λ : ExactLaws N) where
     abbrev A₀ : Matrix Value
     A₀ = record { n = S .n; entries = A }
 
-    accepted-kept : (c : Call Value) → refusal N S c ≡ none → Kept (accepted N 𝟘 𝟘 S c .after) (updated N A₀ c)
-    unfolding accepted refusal updated
+    accepted-kept : (c : Call Value) → indexTests N S c ≡ none → Kept (accepted N 𝟘 𝟘 S c .after) (updated N A₀ c)
+    unfolding accepted indexTests updated
     accepted-kept (push row column d) e = record { size = refl; factorization = pushed-kept Λ (S .n) A (S .L) (S .U) row column d h }
     accepted-kept (replaceRow r row) e =
         record { size = refl; factorization = row-replaced-kept Λ (S .n) A (S .L) (S .U) r row (index-within (S .n) r (refused 5) (or-else-none _ _ e .0)) h }
@@ -90,7 +92,7 @@ module _ {N : NumberForm} (Λ : ExactLaws N) where
     step-kept-at c = go (refusal N S c) refl
       where
         go : (o : Option Answer) → refusal N S c ≡ o → numberOf (stepUnder N 𝟘 𝟘 o S c .answer) ≡ 0 → Kept (stepUnder N 𝟘 𝟘 o S c .after) (updated N A₀ c)
-        go none e z = accepted-kept c e
+        go none e z = accepted-kept c (refusal-passed N S c e .0)
         go (some a) e z = refused-kept c a e z
 
   step-kept : (S : State Value) (A : Matrix Value) (c : Call Value) → numberOf (step N 𝟘 𝟘 S c .answer) ≡ 0 → Kept S A
@@ -106,6 +108,10 @@ module _ {N : NumberForm} (Λ : ExactLaws N) where
   run-kept S A (c ∷ cs) z k = run-kept (step N 𝟘 𝟘 S c .after) (updated N A c) cs (z .1) (step-kept S A c (omega (arith, z .0)) k)
 
 -- ---- the theorem
+
+-- no call is refused for its data, since every fraction is finite
+pub data-accepted : (undefined : Undefined) (c : Call Fraction) → dataTest (fractions undefined) c ≡ none
+data-accepted undefined c = none-if-finite (fractions undefined) 0 (lentData c) (λ i l. refl)
 
 module _ (undefined : Undefined) where
   abbrev N : NumberForm

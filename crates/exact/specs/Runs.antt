@@ -15,7 +15,8 @@ use Rattle.machine.specs.Backward.{copyRowToDense, negligible, trim, clearDense
 use Rattle.machine.specs.Updates.{putColumn, putSelected, columnCopied, bordered, columnCleared, unitRow}
 use Rattle.machine.specs.Updates.{restoredFrom, restored, pushed, columnReplaced, rowReplacedFrom, rowReplaced, columnDropped, removed}
 use Rattle.machine.specs.Calls.{Call, push, Answer, done, moved, refused, refusedAt, Result, numberOf}
-use Rattle.machine.specs.Machine.{refusal, accepted, stepUnder, step, run}
+use Rattle.machine.specs.LentData.{firstNonFinite}
+use Rattle.machine.specs.Machine.{indexTests, refusal, accepted, stepUnder, step, run}
 use Rattle.exact.specs.Fractions.{Fraction, _≈_, negative, whole, ratio, Undefined, fractions}
 
 -- ---- which calls are accepted, and what is left
@@ -71,7 +72,7 @@ module _ (undefined : Undefined) where
 
   -- Who unfolds `after` unfolds the whole machine.
   unfoldable pub after : List (Call Fraction) → State Fraction
-  unfolding run step stepUnder accepted refusal pushed bordered columnReplaced putColumn restored restoredFrom putSelected rowReplaced rowReplacedFrom columnCleared unitRow removed
+  unfolding run step stepUnder accepted refusal indexTests firstNonFinite pushed bordered columnReplaced putColumn restored restoredFrom putSelected rowReplaced rowReplacedFrom columnCleared unitRow removed
       columnDropped columnCopied forward copyDenseToRow forwardRows forwardRow forwardActs forwardTransform transformRows
       backward copyRowToDense negligible trim backwardRows backwardRow clearDense backwardSkips backwardTransform product sum pairStep first second
   after calls = lastState empty (exactRun empty calls)

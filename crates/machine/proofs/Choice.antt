@@ -5,7 +5,7 @@ use mathlib.Core.List.{List, [], _∷_}
 use Prim.Native.Nat.{ℕ, zero, suc, _≤_, _<_}
 use native.Mathlib.Omega.{arith}
 use lib.ListN.{length, getD}
-use lib.Dec.{T as So, leb, ltb, eqb, ltb→lt, leb→le, T-not}
+use lib.Dec.{T as So, leb, ltb, eqb, ltb→lt, leb→le, eqb→eq, T-not}
 use borrow.Author.Tests.{leb-false, ltb-false}
 use lib.Ieee.Fits.{eq→eqb, and-l, and-r}
 use Rattle.machine.specs.Tables.{Vector, State, Work, stateOf, tabulate}
@@ -24,6 +24,9 @@ is-false false h = refl
 
 pub neqb→ne : (a b : ℕ) → So (not (eqb a b)) → a ≡ b → ⊥
 neqb→ne a b s e = T-not (eqb a b) s (eq→eqb e)
+
+pub both-equal : (a b c d : ℕ) → So (eqb a b && eqb c d) → (a ≡ b) × (c ≡ d)
+both-equal a b c d s = (eqb→eq a b (and-l (eqb a b) (eqb c d) s), eqb→eq c d (and-r (eqb a b) (eqb c d) s))
 
 pub in-range : (a b j : ℕ) → So (leb a j && ltb j b) → (a ≤ j) × (j < b)
 in-range a b j s = (leb→le a j (and-l (leb a j) (ltb j b) s), ltb→lt j b (and-r (leb a j) (ltb j b) s))

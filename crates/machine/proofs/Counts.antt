@@ -12,14 +12,14 @@ use Rattle.machine.specs.Products.{entry}
 use Rattle.machine.specs.Forward.{forwardActs}
 use Rattle.machine.specs.Backward.{trim, backwardSkips}
 use Rattle.machine.specs.Calls.{Call, push, replaceRow, replaceColumn, remove, solve, solveTranspose, Answer}
-use Rattle.machine.specs.Machine.{refusal}
+use Rattle.machine.specs.Machine.{indexTests, refusal}
 use Rattle.machine.specs.Agreement.{Agree, AgreeWithin}
 use Rattle.machine.specs.Counts.{forwardRowCount, backwardRowCount, forwardRowsCount, forwardCount, backwardRowsCount, backwardCount, restoredFromCount, restoredCount, pushedCount, columnReplacedCount, rowReplacedFromCount, rowReplacedCount, columnDroppedCount, removedCount, acceptedCount, countUnder, count}
 use Rattle.machine.proofs.Choice.{choose}
 use Rattle.machine.proofs.Forward.{forward-rows-same}
 use Rattle.machine.proofs.Backward.{trim-same, trim-le, trim-ge, copy-row-same, backward-rows-same, backward-same}
 use Rattle.machine.proofs.Updates.{put-selected-same, bordered-same, column-placed-same, last-column-placed-same, column-moved-same, column-taken-same, unit-row-set-same}
-use Rattle.machine.proofs.Refusals.{or-else-none, index-within}
+use Rattle.machine.proofs.Refusals.{or-else-none, index-within, refusal-passed}
 use Rattle.machine.proofs.Step.{refusal-same}
 
 -- ---- Forward: k is how much of v is carried along
@@ -158,8 +158,8 @@ module _ (N : NumberForm) (E T : N .Value) where
     abbrev R : State Value
     R = record { n = n; L = L′; U = U′ }
 
-    accepted-count-same : (c : Call Value) → refusal N S c ≡ none → acceptedCount N E T S c ≡ acceptedCount N E T R c
-    unfolding acceptedCount refusal
+    accepted-count-same : (c : Call Value) → indexTests N S c ≡ none → acceptedCount N E T S c ≡ acceptedCount N E T R c
+    unfolding acceptedCount indexTests
     accepted-count-same (push row column d) e = pushed-count-same row row column column d (λ j a. refl) (λ j a. refl)
     accepted-count-same (replaceRow r row) e = row-replaced-count-same r row row (index-within n r _ (or-else-none _ _ e .0)) (λ j a. refl)
     accepted-count-same (replaceColumn k column) e = column-replaced-count-same k column column (index-within n k _ (or-else-none _ _ e .0)) (λ j a. refl)
@@ -173,7 +173,7 @@ module _ (N : NumberForm) (E T : N .Value) where
         subst (λ (o : Option Answer). countUnder N E T (refusal N S c) S c ≡ countUnder N E T o R c) (refusal-same N E T n L U L′ U′ hL hU c) (go (refusal N S c) refl)
       where
         go : (o : Option Answer) → refusal N S c ≡ o → countUnder N E T o S c ≡ countUnder N E T o R c
-        go none e = accepted-count-same c e
+        go none e = accepted-count-same c (refusal-passed N S c e .0)
         go (some a) e = refl
 
   pub count-same : (S R : State Value) (c : Call Value) → Agree S R → count N E T S c ≡ count N E T R c

@@ -1,7 +1,7 @@
--- Which numbers a refusal can have: the machine's are 5, 6, 7, 9 and 10, so above 0. And the answer of an accepted call is 0.
+-- Which numbers a refusal can have: the machine's are 5, 6, 7, 9, 10 and 23, so above 0. And the answer of an accepted call is 0.
 use mathlib.Core.Path.{_≡_, refl, subst}
 use mathlib.Core.Bool.{Bool, true, false, not, _&&_, cond}
-use mathlib.Core.List.{List}
+use mathlib.Core.List.{List, [], _∷_}
 use mathlib.Core.Option.{Option, none, some}
 use Prim.Native.Nat.{ℕ, zero, suc, _<_}
 use native.Mathlib.Omega.{arith}
@@ -11,7 +11,8 @@ use Rattle.numbers.specs.NumberForm.{NumberForm}
 use Rattle.machine.specs.Tables.{Table, State}
 use Rattle.machine.specs.Solves.{diagonals}
 use Rattle.machine.specs.Calls.{Call, push, replaceRow, replaceColumn, remove, solve, solveTranspose, Answer, refused, refusedAt, numberOf, _orElse_, refuseIf}
-use Rattle.machine.specs.Machine.{replacementTests, removeTests, rhsTest, refusal, accepted}
+use Rattle.machine.specs.LentData.{lentData, firstNonFinite}
+use Rattle.machine.specs.Machine.{replacementTests, removeTests, rhsTest, indexTests, refusal, accepted}
 use Rattle.machine.proofs.Refusals.{none-is-some}
 
 -- P holds of the number of every refusal that o can be
@@ -33,10 +34,13 @@ module _ (P : ℕ → Type 0) where
   either-numbered none p h k = k
   either-numbered (some a) p h k = h
 
+  choice-numbered : (b : Bool) (o p : Option Answer) → Numbered P o → Numbered P p → Numbered P (cond b o p)
+  choice-numbered true o p h k = h
+  choice-numbered false o p h k = k
+
   -- a part that only some calls have
   pub when-numbered : (b : Bool) (o : Option Answer) → Numbered P o → Numbered P (cond b o none)
-  when-numbered true o h = h
-  when-numbered false o h = none-numbered
+  when-numbered b o h = choice-numbered b o none h none-numbered
 
   answer-numbered : (b : Bool) (a : Answer) → P (numberOf a) → Numbered P (cond b (some a) none)
   answer-numbered b a h = when-numbered b (some a) (number-of a h)
@@ -46,7 +50,7 @@ module _ (P : ℕ → Type 0) where
 
 -- ---- the machine's refusals
 
--- The plain machine refuses with 5, 6, 7, 9 and 10: what holds of these holds of its every number.
+-- Indices and lengths are refused with 5, 6 and 7, diagonals with 9 and 10: what holds of these holds of every number that is given there.
 module _ (P : ℕ → Type 0) (five : P 5) (six : P 6) (seven : P 7) (nine : P 9) (ten : P 10) where
   replacement-numbered : (n index : ℕ) (outside : Answer) (values : ℕ) → P (numberOf outside) → Numbered P (replacementTests n index outside values)
   replacement-numbered n index outside values h = either-numbered P _ _ (answer-numbered P (leb n index) outside h) (test-numbered P (not (eqb values n)) 7 seven)
@@ -55,9 +59,8 @@ module _ (P : ℕ → Type 0) (five : P 5) (six : P 6) (seven : P 7) (nine : P 9
   remove-numbered n row column = either-numbered P _ _ (test-numbered P (leb n row) 5 five) (test-numbered P (leb n column) 6 six)
 
   diagonal-numbered : (z f : Bool) (i : ℕ) → Numbered P (cond z (some (refusedAt 9 i)) (cond f none (some (refusedAt 10 i))))
-  diagonal-numbered true f i = number-of P (refusedAt 9 i) nine
-  diagonal-numbered false true i = none-numbered P
-  diagonal-numbered false false i = number-of P (refusedAt 10 i) ten
+  diagonal-numbered z f i =
+      choice-numbered P z _ _ (number-of P (refusedAt 9 i) nine) (choice-numbered P f none _ (none-numbered P) (number-of P (refusedAt 10 i) ten))
 
   module _ (N : NumberForm) where
     open NumberForm N using (Value, isZero, isFinite)
@@ -70,17 +73,29 @@ module _ (P : ℕ → Type 0) (five : P 5) (six : P 6) (seven : P 7) (nine : P 9
     solve-numbered : (S : State Value) (b : List Value) → Numbered P (rhsTest (S .n) (length b) orElse diagonals N (S .U) (S .n))
     solve-numbered S b = either-numbered P _ _ (test-numbered P (not (eqb (length b) (S .n))) 7 seven) (diagonals-numbered (S .U) (S .n))
 
-    pub refusal-numbered : (S : State Value) (c : Call Value) → Numbered P (refusal N S c)
-    unfolding refusal
-    refusal-numbered S (push row column d) = test-numbered P (not (eqb (length row) (S .n) && eqb (length column) (S .n))) 7 seven
-    refusal-numbered S (replaceRow r row) = replacement-numbered (S .n) r (refused 5) (length row) five
-    refusal-numbered S (replaceColumn k column) = replacement-numbered (S .n) k (refused 6) (length column) six
-    refusal-numbered S (remove r k) = remove-numbered (S .n) r k
-    refusal-numbered S (solve b) = solve-numbered S b
-    refusal-numbered S (solveTranspose b) = solve-numbered S b
+    pub index-numbered : (S : State Value) (c : Call Value) → Numbered P (indexTests N S c)
+    unfolding indexTests
+    index-numbered S (push row column d) = test-numbered P (not (eqb (length row) (S .n) && eqb (length column) (S .n))) 7 seven
+    index-numbered S (replaceRow r row) = replacement-numbered (S .n) r (refused 5) (length row) five
+    index-numbered S (replaceColumn k column) = replacement-numbered (S .n) k (refused 6) (length column) six
+    index-numbered S (remove r k) = remove-numbered (S .n) r k
+    index-numbered S (solve b) = solve-numbered S b
+    index-numbered S (solveTranspose b) = solve-numbered S b
+
+-- and data with 23
+module _ (P : ℕ → Type 0) (twenty-three : P 23) (N : NumberForm) where
+  open NumberForm N using (Value, isFinite)
+
+  pub data-numbered : (k : ℕ) (xs : List Value) → Numbered P (firstNonFinite N k xs)
+  unfolding firstNonFinite
+  data-numbered k [] = none-numbered P
+  data-numbered k (x ∷ xs) = choice-numbered P (isFinite x) _ _ (data-numbered (suc k) xs) (number-of P (refusedAt 23 k) twenty-three)
 
 pub refusal-above-zero : (N : NumberForm) (S : State (N .Value)) (c : Call (N .Value)) → Numbered AboveZero (refusal N S c)
-refusal-above-zero = refusal-numbered AboveZero (omega arith) (omega arith) (omega arith) (omega arith) (omega arith)
+unfolding refusal
+refusal-above-zero N S c =
+    either-numbered AboveZero _ _ (index-numbered AboveZero (omega arith) (omega arith) (omega arith) (omega arith) (omega arith) N S c)
+    (data-numbered AboveZero (omega arith) N 0 (lentData c))
 
 -- ---- an accepted call
 

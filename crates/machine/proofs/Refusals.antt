@@ -5,7 +5,12 @@ use mathlib.Core.Option.{Option, none, some}
 use Prim.Native.Nat.{ℕ, _<_}
 use native.Mathlib.Omega.{arith}
 use lib.Dec.{T as So, leb, eqb, eqb→eq, nleb→lt}
-use Rattle.machine.specs.Calls.{Answer, refused, _orElse_, refuseIf}
+use Rattle.numbers.specs.NumberForm.{NumberForm}
+use Rattle.machine.specs.Tables.{State}
+use Rattle.machine.specs.Calls.{Call, Answer, refused, _orElse_, refuseIf}
+use Rattle.machine.specs.LentData.{dataTest}
+use Rattle.machine.specs.Machine.{indexTests, refusal}
+use Rattle.machine.proofs.Choice.{both-equal}
 
 pub or-else-none : (a b : Option Answer) → (a orElse b) ≡ none → (a ≡ none) × (b ≡ none)
 or-else-none none b e = (refl, e)
@@ -27,25 +32,26 @@ pub refuse-if-false : (b : Bool) (number : ℕ) → (So b → ⊥) → refuseIf 
 refuse-if-false true number h = absurd (h tt)
 refuse-if-false false number h = refl
 
+-- what is refused where it does not hold
+refuse-unless-none : (b : Bool) (number : ℕ) → refuseIf (not b) number ≡ none → So b
+refuse-unless-none true number e = tt
+refuse-unless-none false number e = refuse-if-none true number e
+
 -- two equations that are tested as one
 pub equations-hold : (a b c d : ℕ) (number : ℕ) → refuseIf (not (eqb a b && eqb c d)) number ≡ none → (a ≡ b) × (c ≡ d)
-equations-hold a b c d number h = go (eqb a b) (eqb c d) (refuse-if-none (not (eqb a b && eqb c d)) number h) (eqb→eq a b) (eqb→eq c d)
-  where
-    go : {P Q : Type 0} (p q : Bool) → So (not (not (p && q))) → (So p → P) → (So q → Q) → P × Q
-    go true true t f g = (f tt, g tt)
-    go true false t f g = absurd t
-    go false q t f g = absurd t
+equations-hold a b c d number h = both-equal a b c d (refuse-unless-none (eqb a b && eqb c d) number h)
 
 pub equation-holds : (a b number : ℕ) → refuseIf (not (eqb a b)) number ≡ none → a ≡ b
-equation-holds a b number h = go (eqb a b) (refuse-if-none (not (eqb a b)) number h) (eqb→eq a b)
-  where
-    go : {P : Type 0} (p : Bool) → So (not (not p)) → (So p → P) → P
-    go true t f = f tt
-    go false t f = absurd t
+equation-holds a b number h = eqb→eq a b (refuse-unless-none (eqb a b) number h)
 
 -- an index out of bounds, which gives a
 pub index-within : (n i : ℕ) (a : Answer) → cond (leb n i) (some a) none ≡ none → i < n
 index-within n i a h = nleb→lt n i (given-none (leb n i) a h)
+
+-- a call that the machine accepts passes its tests of indices and lengths, and lends data that pass
+pub refusal-passed : (N : NumberForm) (S : State (N .Value)) (c : Call (N .Value)) → refusal N S c ≡ none → (indexTests N S c ≡ none) × (dataTest N c ≡ none)
+unfolding refusal
+refusal-passed N S c e = or-else-none (indexTests N S c) (dataTest N c) e
 
 -- a call is not both refused and accepted
 isNone : {A : Type 0} → Option A → Bool

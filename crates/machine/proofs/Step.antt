@@ -9,12 +9,13 @@ use lib.ListN.{length}
 use Rattle.numbers.specs.NumberForm.{NumberForm}
 use Rattle.machine.specs.Tables.{Table, State}
 use Rattle.machine.specs.Calls.{Call, push, replaceRow, replaceColumn, remove, solve, solveTranspose, Answer, _orElse_, refuseIf}
-use Rattle.machine.specs.Machine.{refusal, accepted, stepUnder, step}
+use Rattle.machine.specs.LentData.{dataTest}
+use Rattle.machine.specs.Machine.{indexTests, refusal, accepted, stepUnder, step}
 use Rattle.machine.specs.Agreement.{Agree, Same}
 use Rattle.machine.proofs.Choice.{within-state}
 use Rattle.machine.proofs.Updates.{pushed-same, column-replaced-same, row-replaced-same, removed-same}
 use Rattle.machine.proofs.Solves.{diagonals-same, solution-same, solution-transpose-same}
-use Rattle.machine.proofs.Refusals.{or-else-none, refuse-if-none}
+use Rattle.machine.proofs.Refusals.{or-else-none, refuse-if-none, refusal-passed}
 
 module _ (N : NumberForm) (E T : N .Value) where
   open NumberForm N using (Value)
@@ -29,21 +30,26 @@ module _ (N : NumberForm) (E T : N .Value) where
     states-agree : Agree S R
     states-agree = record { n = refl; L = hL; U = hU }
 
+    index-tests-same : (c : Call Value) → indexTests N S c ≡ indexTests N R c
+    unfolding indexTests
+    index-tests-same (push row column d) = refl
+    index-tests-same (replaceRow r row) = refl
+    index-tests-same (replaceColumn k column) = refl
+    index-tests-same (remove r k) = refl
+    index-tests-same (solve b) = λ t. refuseIf (not (eqb (length b) n)) 7 orElse diagonals-same N n U U′ hU n (omega arith) t
+    index-tests-same (solveTranspose b) = λ t. refuseIf (not (eqb (length b) n)) 7 orElse diagonals-same N n U U′ hU n (omega arith) t
+
+    -- the data are the call's own
     pub refusal-same : (c : Call Value) → refusal N S c ≡ refusal N R c
     unfolding refusal
-    refusal-same (push row column d) = refl
-    refusal-same (replaceRow r row) = refl
-    refusal-same (replaceColumn k column) = refl
-    refusal-same (remove r k) = refl
-    refusal-same (solve b) = λ t. refuseIf (not (eqb (length b) n)) 7 orElse diagonals-same N n U U′ hU n (omega arith) t
-    refusal-same (solveTranspose b) = λ t. refuseIf (not (eqb (length b) n)) 7 orElse diagonals-same N n U U′ hU n (omega arith) t
+    refusal-same c = λ t. index-tests-same c t orElse dataTest N c
 
     -- an index that was not refused
     index-below : (i : ℕ) (number : ℕ) → refuseIf (leb n i) number ≡ none → i < n
     index-below i number e = nleb→lt n i (refuse-if-none (leb n i) number e)
 
-    accepted-same : (c : Call Value) → refusal N S c ≡ none → Same (accepted N E T S c) (accepted N E T R c)
-    unfolding accepted refusal
+    accepted-same : (c : Call Value) → indexTests N S c ≡ none → Same (accepted N E T S c) (accepted N E T R c)
+    unfolding accepted indexTests
     accepted-same (push row column d) e =
         record { answer = refl; solved = refl; after = within-state (suc n) (omega arith) (pushed-same N E T n L U L′ U′ hL hU row row column column d (λ j a. refl) (λ j a. refl)) }
     accepted-same (replaceRow r row) e =
@@ -65,7 +71,7 @@ module _ (N : NumberForm) (E T : N .Value) where
         subst (λ (o : Option Answer). Same (stepUnder N E T (refusal N S c) S c) (stepUnder N E T o R c)) (refusal-same c) (go (refusal N S c) refl)
       where
         go : (o : Option Answer) → refusal N S c ≡ o → Same (stepUnder N E T o S c) (stepUnder N E T o R c)
-        go none e = accepted-same c e
+        go none e = accepted-same c (refusal-passed N S c e .0)
         go (some a) e = record { answer = refl; solved = refl; after = states-agree }
 
   pub refusal-agrees : (S R : State Value) (c : Call Value) → Agree S R → refusal N S c ≡ refusal N R c

@@ -16,7 +16,8 @@ use Rattle.machine.specs.Updates.{putColumn, putSelected, columnCopied, 
 use Rattle.machine.specs.Updates.{restoredFrom, restored, pushed, columnReplaced, rowReplacedFrom, rowReplaced, columnDropped, removed}
 use Rattle.machine.specs.Solves.{substituted, backSubstitution, forwardSubstitution, solution, solutionTranspose, diagonals}
 use Rattle.machine.specs.Calls.{Call, push, Result}
-use Rattle.machine.specs.Machine.{refusal, accepted, stepUnder, step}
+use Rattle.machine.specs.LentData.{firstNonFinite}
+use Rattle.machine.specs.Machine.{indexTests, refusal, accepted, stepUnder, step}
 
 -- What a call leaves under the managed tolerances where nothing is refused. Who unfolds it unfolds the whole machine but its refusals.
 unfoldable pub carriedOut : State Float → Call Float → Result Float
@@ -29,7 +30,7 @@ carriedOut = accepted (ieee binary64) (managedEpsilon binary64) (managedTiny bin
 
 -- a call under the managed tolerances
 unfoldable pub call : State Float → Call Float → Result Float
-unfolding carriedOut step stepUnder refusal diagonals
+unfolding carriedOut step stepUnder refusal indexTests firstNonFinite diagonals
 call = step (ieee binary64) (managedEpsilon binary64) (managedTiny binary64)
 
 -- dimension 0: a NaN stands wherever no call has written

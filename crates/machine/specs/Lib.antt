@@ -5,6 +5,7 @@ pub mod Backward
 pub mod Updates
 pub mod Solves
 pub mod Calls
+pub mod LentData
 pub mod Machine
 pub mod BenchStates
 pub mod Counts

@@ -12,7 +12,8 @@ use Rattle.numbers.specs.Tolerances.{managedEpsilon, managedTiny}
 use Rattle.machine.specs.Tables.{Table}
 use Rattle.machine.specs.Solves.{diagonals}
 use Rattle.machine.specs.Calls.{Answer, _orElse_}
-use Rattle.machine.specs.Machine.{rhsTest, refusal}
+use Rattle.machine.specs.LentData.{firstNonFinite}
+use Rattle.machine.specs.Machine.{rhsTest, indexTests}
 use Rattle.machine.proofs.Diagonals.{all-sound, none-if-sound, first-bad}
 use Rattle.machine.proofs.Refusals.{or-else-last, none-is-some}
 use Rattle.storage.specs.Views.{viewU}
@@ -43,7 +44,7 @@ diagonals-decide storage n rhs d passed long = rw (passed, eq-eqb rhs n long) (o
 
 module _ (F : Format) where
   pub demand-1 : Demand1 F
-  unfolding refusalAt refusal
+  unfolding refusalAt indexTests firstNonFinite
   demand-1 = record {
     carried-out = λ c s t r o e. (accepted-same (ieee F) (managedEpsilon F) (managedTiny F) o e, accepted-number (ieee F) (managedEpsilon F) (managedTiny F) o e);
     refused = λ c s t r o a e.

@@ -4,9 +4,11 @@ pub mod Tested
 pub mod Outcomes
 pub mod Refused
 pub mod Accepted
+pub mod Answered
 pub mod Counted
 pub mod ListClaim
 pub mod Writing
 pub mod Satisfiable
 pub mod Demands
 pub mod WhichBuffer
+pub mod FiniteData

@@ -8,8 +8,9 @@ use native.Mathlib.Omega.{arith}
 use lib.Dec.{T as So, ltb, eqb, ltb→lt, eqb→eq, nltb→le}
 use lib.ListN.{length}
 use Rattle.numbers.specs.NumberForm.{NumberForm}
-use Rattle.machine.specs.Calls.{Call, Answer, refuseIf, isPush, isUpdate}
-use Rattle.machine.specs.Machine.{refusal}
+use Rattle.machine.specs.Calls.{Call, Answer, _orElse_, refuseIf, isPush, isUpdate}
+use Rattle.machine.specs.LentData.{dataTest}
+use Rattle.machine.specs.Machine.{indexTests, refusal}
 use Rattle.machine.proofs.Choice.{is-false, neqb→ne}
 use Rattle.machine.proofs.Refusals.{or-else-none, or-else-last, refuse-if-none, refuse-if-false, equations-hold}
 use Rattle.storage.specs.Places.{lLength, uLength, overflows}
@@ -49,18 +50,20 @@ storage-passed n c l u h =
 
 -- ---- all parts
 
-pub record OrderPassed (lent capacity indices room : Option Answer) : Type 0 where
+pub record OrderPassed (lent capacity indices values room : Option Answer) : Type 0 where
   pub is-lent : lent ≡ none
   pub has-capacity : capacity ≡ none
   pub has-indices : indices ≡ none
+  pub has-values : values ≡ none
   pub has-room : room ≡ none
 
-pub order-passed : {lent capacity indices room : Option Answer} → inOrder lent capacity indices room ≡ none → OrderPassed lent capacity indices room
-order-passed {lent} {capacity} {indices} {room} e =
+pub order-passed : {lent capacity indices values room : Option Answer} → inOrder lent capacity indices values room ≡ none → OrderPassed lent capacity indices values room
+order-passed {lent} {capacity} {indices} {values} {room} e =
     let first = or-else-none lent _ e in
     let second = or-else-none capacity _ (first .1) in
-    let third = or-else-none indices room (second .1) in
-    record { is-lent = first .0; has-capacity = second .0; has-indices = third .0; has-room = third .1 }
+    let third = or-else-none indices _ (second .1) in
+    let fourth = or-else-none values room (third .1) in
+    record { is-lent = first .0; has-capacity = second .0; has-indices = third .0; has-values = fourth .0; has-room = fourth .1 }
 
 -- an update's storage at this dimension, and its workspaces for m
 pub record UpdatePassed (n c : ℕ) (lent : LentLengths) (m : ℕ) : Type 0 where
@@ -85,9 +88,9 @@ capacity-passed n c h e = omega (arith, neqb→ne n c (refuse-if-none (eqb n c) 
 module _ (N : NumberForm) (s : Instance (N .Value)) (c : Call (N .Value)) where
   -- With room for the pushes, an instance whose storage passes refuses just what the plain machine refuses: 4 and 8 don't occur.
   pub refusals-with-room : lends s c ≡ none → reached s c ≤ s .c → (So (isUpdate c) → reached s c ≤ length (s .y)) → refusalAt N s c ≡ refusal N (view N s) c
-  unfolding refusalAt
+  unfolding refusalAt refusal
   refusals-with-room lent capacity workspace =
-      rw (lent, no-4 (isPush c) capacity) (or-else-last (refusal N (view N s) c) _ (no-8 (isUpdate c) workspace))
+      rw (lent, no-4 (isPush c) capacity) (λ t. indexTests N (view N s) c orElse or-else-last (dataTest N c) _ (no-8 (isUpdate c) workspace) t)
     where
       no-4 : (b : Bool) → s .n + cond b 1 0 ≤ s .c → cond b (capacityTest (s .n) (s .c)) none ≡ none
       no-4 true h = refuse-if-false (eqb (s .n) (s .c)) 4 (λ t. omega (arith, eqb→eq (s .n) (s .c) t))
@@ -98,7 +101,7 @@ module _ (N : NumberForm) (s : Instance (N .Value)) (c : Call (N .Value)) where
       no-8 false h = refl
 
   module _ (e : refusalAt N s c ≡ none) where
-    passed : OrderPassed (lends s c) (cond (isPush c) (capacityTest (s .n) (s .c)) none) (refusal N (view N s) c) (cond (isUpdate c) (roomTest (reached s c) (length (s .y))) none)
+    pub passed : OrderPassed (lends s c) (cond (isPush c) (capacityTest (s .n) (s .c)) none) (indexTests N (view N s) c) (dataTest N c) (cond (isUpdate c) (roomTest (reached s c) (length (s .y))) none)
     unfolding refusalAt
     passed = order-passed e
 

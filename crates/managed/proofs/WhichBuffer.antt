@@ -5,14 +5,14 @@ use mathlib.Core.Logic.{_≢_}
 use mathlib.Core.Option.{Option, none, some}
 use Prim.Native.Nat.{ℕ, _≤_, _<_}
 use native.Mathlib.Omega.{arith}
-use lib.Dec.{T as So, ltb, eqb, ltb→lt, nltb→le, eqb→eq, T-not, not-T}
+use lib.Dec.{T as So, ltb, eqb, ltb→lt, nltb→le, T-not, not-T}
 use lib.Ieee.{Format}
 use lib.Ieee.Fits.{and-i, and-l, and-r, eq→eqb}
 use borrow.Author.Tests.{lt-ltb, le-ltb}
 use Rattle.numbers.specs.NumberForm.{NumberForm, ieee}
 use Rattle.numbers.specs.Tolerances.{managedEpsilon, managedTiny}
 use Rattle.machine.specs.Calls.{Call, Answer, numberOf, refusalNumber, _orElse_, refuseIf, isUpdate}
-use Rattle.machine.proofs.Choice.{is-true, is-false, neqb→ne}
+use Rattle.machine.proofs.Choice.{is-true, is-false, neqb→ne, both-equal}
 use Rattle.machine.proofs.Refusals.{or-else-last, none-is-some}
 use Rattle.machine.proofs.Numbered.{Numbered}
 use Rattle.storage.specs.Places.{lLength, uLength, overflows}
@@ -21,8 +21,8 @@ use Rattle.managed.specs.Instance.{Instance, lengthsOf}
 use Rattle.managed.specs.Refusals.{dimensionTest, sizeTests, storageTests, workspaceTests, lentTests, storageAlone, refusalAt}
 use Rattle.managed.specs.Outcome.{Report, Outcome}
 use Rattle.managed.specs.WhichBuffer.{SizesAgree, ShortL, ShortU, UnequalWorkspaces, BufferNamed, WhichBuffer}
-use Rattle.managed.proofs.Refused.{behind-numbered, refused-untouched}
-use Rattle.managed.proofs.Accepted.{accepted-number}
+use Rattle.managed.proofs.Refused.{behind-numbered}
+use Rattle.managed.proofs.Answered.{answer-number}
 
 -- ---- the number, test by test
 
@@ -82,7 +82,7 @@ module _ (update : Bool) (n c : ℕ) (lent : LentLengths) (behind : Option Answe
   test-holds h = and-i (eqb (lent .y) (lent .z)) (eqb (lent .y) (lent .w)) (eq→eqb (h .0)) (eq→eqb (h .1))
 
   lengths-equal : So equal → Equal
-  lengths-equal t = (eqb→eq (lent .y) (lent .z) (and-l (eqb (lent .y) (lent .z)) _ t), eqb→eq (lent .y) (lent .w) (and-r (eqb (lent .y) (lent .z)) _ t))
+  lengths-equal = both-equal (lent .y) (lent .z) (lent .y) (lent .w)
 
   -- what stands behind the buffers' tests
   abbrev x : ℕ
@@ -92,6 +92,7 @@ module _ (update : Bool) (n c : ℕ) (lent : LentLengths) (behind : Option Answe
   unfolding dimensionTest sizeTests workspaceTests
   by-tests = is-number ∙ in-order (ltb c n) (overflows c) short-L short-U update (not equal) behind
 
+  -- of 3, 13 and 14 each, `Other` is itself the absurdity
   none-behind : (m : ℕ) → (Other m → ⊥) → x ≢ m
   none-behind m h e = h (subst Other e (other-number behind other))
 
@@ -139,16 +140,9 @@ module _ (update : Bool) (n c : ℕ) (lent : LentLengths) (behind : Option Answe
 -- ---- the calls
 
 module _ (N : NumberForm) (E T : N .Value) {c : Call (N .Value)} {s t : Instance (N .Value)} {r : Report (N .Value)} (o : Outcome N E T c s t r) where
-  outcome-number : numberOf (r .answer) ≡ refusalNumber (refusalAt N s c)
-  outcome-number = go (refusalAt N s c) refl
-    where
-      go : (p : Option Answer) → refusalAt N s c ≡ p → numberOf (r .answer) ≡ refusalNumber p
-      go none e = accepted-number N E T o e
-      go (some a) e = ap numberOf (refused-untouched N E T o a e .0)
-
   call-named : BufferNamed (isUpdate c) (s .n) (s .c) (lengthsOf s) (numberOf (r .answer))
   unfolding refusalAt
-  call-named = buffer-named (isUpdate c) (s .n) (s .c) (lengthsOf s) _ (behind-numbered Other tt tt tt tt tt tt tt N s c) outcome-number
+  call-named = buffer-named (isUpdate c) (s .n) (s .c) (lengthsOf s) _ (behind-numbered Other tt tt tt tt tt tt tt tt N s c) (answer-number N E T o)
 
 pub which-buffer : (F : Format) → WhichBuffer F
 which-buffer F = record {

@@ -5,4 +5,5 @@ pub mod Outcome
 pub mod Lists
 pub mod Demands
 pub mod WhichBuffer
+pub mod FiniteData
 pub mod BenchTable

@@ -1,4 +1,4 @@
--- The refusals of the managed calls, document 01's 1 to 10 and document 02's 13 and 14, in their order. Below stand computed lines for that order, one for each
+-- The refusals of the managed calls, document 01's 1 to 10 and document 02's 13, 14 and 23, in their order. Below stand computed lines for that order, one for each
 -- two conditions that follow one another and can hold at once.
 use mathlib.Core.Path.{_≡_, refl}
 use mathlib.Core.Bool.{Bool, true, false, not, _&&_, cond}
@@ -7,16 +7,17 @@ use mathlib.Core.Option.{Option, none, some}
 use Prim.Native.Nat.{ℕ, _+_, _^_}
 use lib.Dec.{ltb, eqb}
 use lib.ListN.{length, replicate}
-use lib.Ieee.{Float, nan, binary64, eq, ofBits}
+use lib.Ieee.{Float, nan, inf, binary64, eq, ofBits}
 use Rattle.numbers.specs.NumberForm.{NumberForm, nearest, ieee, whole}
 use Rattle.machine.specs.Calls.{Call, push, replaceRow, replaceColumn, remove, solve, solveTranspose, Answer, refused, refusedAt, _orElse_, refuseIf, isPush, isUpdate}
 use Rattle.machine.specs.Solves.{diagonals}
-use Rattle.machine.specs.Machine.{refusal}
+use Rattle.machine.specs.LentData.{firstNonFinite, dataTest}
+use Rattle.machine.specs.Machine.{indexTests}
 use Rattle.storage.specs.Places.{lLength, uLength, overflows, uIndex}
 use Rattle.managed.specs.declared.LentLengths.{LentLengths}
 use Rattle.managed.specs.Instance.{Instance, lengthsOf, view}
 
--- ---- the parts, by dimension, capacity and lengths. Indices and lengths of data (5, 6, 7) and the diagonals (9, 10) are the plain machine's.
+-- ---- the parts, by dimension, capacity and lengths. Indices and lengths of data (5, 6, 7), the diagonals (9, 10) and the data (23) are the plain machine's.
 
 -- 1: n > c
 unfoldable pub dimensionTest : ℕ → ℕ → Option Answer
@@ -52,17 +53,17 @@ roomTest m y = refuseIf (ltb y m) 8
 
 -- ---- the order
 
--- what the call lends; 4; indices and lengths, with a solve's diagonals behind them; 8. A part that a call does not have is `none`.
-abbrev pub inOrder : Option Answer → Option Answer → Option Answer → Option Answer → Option Answer
-inOrder lent capacity indices room = lent orElse capacity orElse indices orElse room
+-- what the call lends; 4; indices and lengths, with a solve's diagonals behind them; 23; 8. A part that a call does not have is `none`.
+abbrev pub inOrder : Option Answer → Option Answer → Option Answer → Option Answer → Option Answer → Option Answer
+inOrder lent capacity indices values room = lent orElse capacity orElse indices orElse values orElse room
 
 -- of an update that needs workspace for the dimension m
-abbrev pub updateTests : ℕ → ℕ → LentLengths → Option Answer → Option Answer → ℕ → Option Answer
-updateTests n c lent capacity indices m = inOrder (lentTests true n c lent) capacity indices (roomTest m (lent .y))
+abbrev pub updateTests : ℕ → ℕ → LentLengths → Option Answer → Option Answer → Option Answer → ℕ → Option Answer
+updateTests n c lent capacity indices values m = inOrder (lentTests true n c lent) capacity indices values (roomTest m (lent .y))
 
 -- of a solve, which is lent L and U alone
 abbrev pub solveTests : ℕ → ℕ → ℕ → ℕ → Option Answer → Option Answer
-solveTests n c l u indices = inOrder (lentTests false n c (storageAlone l u)) none indices none
+solveTests n c l u indices = inOrder (lentTests false n c (storageAlone l u)) none indices none none
 
 module _ {A : Type 0} where
   -- what the call c is lent, tested
@@ -76,14 +77,15 @@ module _ {A : Type 0} where
 module _ (N : NumberForm) where
   open NumberForm N using (Value)
 
-  -- 4 is for a push; the plain machine's own are 7 for a push, 5, 7 for replace row, 6, 7 for replace column, 5, 6 for remove, and 7, 9, 10 for the solves;
-  -- 8 is for an update.
+  -- 4 is for a push; the plain machine's own are 7 for a push, 5, 7 for replace row, 6, 7 for replace column, 5, 6 for remove, and 7, 9, 10 for the solves,
+  -- then 23 for the data of a push or a replacement; 8 is for an update.
   unfoldable pub refusalAt : Instance Value → Call Value → Option Answer
   refusalAt s c =
       inOrder
       (lends s c)
       (cond (isPush c) (capacityTest (s .n) (s .c)) none)
-      (refusal N (view N s) c)
+      (indexTests N (view N s) c)
+      (dataTest N c)
       (cond (isUpdate c) (roomTest (reached s c) (length (s .y))) none)
 
 -- ---- the order, computed
@@ -126,6 +128,10 @@ refuses = refusalAt (ieee binary64)
 one : List Float
 one = whole 1 ∷ []
 
+-- a loose clamp
+loose : List Float
+loose = nan ∷ []
+
 pub record RefusalOrder : Type 0 where
   -- adoption and ready: 1, 2, 3, 13
   storage-one-before-two : storageTests (2 ^ 32 + 1) (2 ^ 32) 0 0 ≡ some (refused 1)
@@ -142,26 +148,34 @@ pub record RefusalOrder : Type 0 where
   thirteen-before-fourteen : refuses (lent (whole 1) 1 2 6 2 2 1 2) (push one one (whole 1)) ≡ some (refused 13)
   unequal-z : refuses (lent (whole 1) 1 2 6 3 2 1 2) (push one one (whole 1)) ≡ some (refused 14)
   unequal-w : refuses (lent (whole 1) 1 2 6 3 2 2 3) (push one one (whole 1)) ≡ some (refused 14)
-  -- push: 4, 7, 8
+  -- push: 4, 7, 23, 8
   fourteen-before-four : refuses (lent (whole 1) 1 1 2 1 2 1 2) (push one one (whole 1)) ≡ some (refused 14)
   four-before-seven : refuses full (push [] one (whole 1)) ≡ some (refused 4)
   push-seven-before-eight : refuses narrow (push one [] (whole 1)) ≡ some (refused 7)
+  push-seven-before-twenty-three : refuses sound (push loose [] nan) ≡ some (refused 7)
+  push-twenty-three-before-eight : refuses narrow (push one loose nan) ≡ some (refusedAt 23 1)
+  push-four-before-twenty-three : refuses full (push loose loose nan) ≡ some (refused 4)
+  push-diagonal : refuses sound (push one one (inf true)) ≡ some (refusedAt 23 2)
   push-eight : refuses narrow (push one one (whole 1)) ≡ some (refused 8)
   push-accepted : refuses sound (push one one (whole 1)) ≡ none
-  -- replace row: 5, 7, 8
+  -- replace row: 5, 7, 23, 8
   row-thirteen-before-fourteen : refuses (lent (whole 1) 1 2 6 2 2 1 2) (replaceRow 1 []) ≡ some (refused 13)
   row-fourteen-before-five : refuses (lent (whole 1) 1 2 6 3 2 1 2) (replaceRow 1 []) ≡ some (refused 14)
   row-five-before-seven : refuses bare (replaceRow 1 []) ≡ some (refused 5)
   row-seven-before-eight : refuses bare (replaceRow 0 []) ≡ some (refused 7)
+  row-seven-before-twenty-three : refuses narrow (replaceRow 0 (nan ∷ loose)) ≡ some (refused 7)
+  row-twenty-three-before-eight : refuses bare (replaceRow 0 loose) ≡ some (refusedAt 23 0)
   row-eight : refuses bare (replaceRow 0 one) ≡ some (refused 8)
   row-accepted : refuses narrow (replaceRow 0 one) ≡ none
   -- 4 is for a push alone
   row-at-capacity : refuses full (replaceRow 0 one) ≡ none
-  -- replace column: 6, 7, 8
+  -- replace column: 6, 7, 23, 8
   column-thirteen-before-fourteen : refuses (lent (whole 1) 1 2 6 2 2 1 2) (replaceColumn 1 []) ≡ some (refused 13)
   column-fourteen-before-six : refuses (lent (whole 1) 1 2 6 3 2 1 2) (replaceColumn 1 []) ≡ some (refused 14)
   column-six-before-seven : refuses bare (replaceColumn 1 []) ≡ some (refused 6)
   column-seven-before-eight : refuses bare (replaceColumn 0 []) ≡ some (refused 7)
+  column-seven-before-twenty-three : refuses narrow (replaceColumn 0 (nan ∷ loose)) ≡ some (refused 7)
+  column-twenty-three-before-eight : refuses bare (replaceColumn 0 loose) ≡ some (refusedAt 23 0)
   column-eight : refuses bare (replaceColumn 0 one) ≡ some (refused 8)
   column-accepted : refuses narrow (replaceColumn 0 one) ≡ none
   -- remove: 5, 6, 8
@@ -171,6 +185,11 @@ pub record RefusalOrder : Type 0 where
   remove-six-before-eight : refuses bare (remove 0 1) ≡ some (refused 6)
   remove-eight : refuses bare (remove 0 0) ≡ some (refused 8)
   remove-accepted : refuses narrow (remove 0 0) ≡ none
+  -- infinities and NaNs are ordinary in the factors: 23 is for lent data
+  factors-of-nan : refuses (lent nan 1 2 6 3 2 2 2) (push one one (whole 1)) ≡ none
+  row-on-nan : refuses (lent nan 1 2 6 3 2 2 2) (replaceRow 0 one) ≡ none
+  column-on-nan : refuses (lent nan 1 2 6 3 2 2 2) (replaceColumn 0 one) ≡ none
+  remove-on-nan : refuses (lent nan 1 2 6 3 2 2 2) (remove 0 0) ≡ none
   -- solves: 7, then the diagonal; they lend no workspaces
   solve-three-before-thirteen : refuses (lent (whole 1) 1 2 5 2 0 0 0) (solve []) ≡ some (refused 3)
   solve-three-before-seven : refuses (lent (whole 1) 1 2 5 3 0 0 0) (solve []) ≡ some (refused 3)
@@ -182,12 +201,15 @@ pub record RefusalOrder : Type 0 where
   transpose-thirteen-before-seven : refuses (lent (whole 1) 1 2 6 2 0 0 0) (solveTranspose []) ≡ some (refused 13)
   transpose-seven-before-ten : refuses (lent nan 1 2 6 3 0 0 0) (solveTranspose []) ≡ some (refused 7)
   transpose-ten : refuses (lent nan 1 2 6 3 0 0 0) (solveTranspose one) ≡ some (refusedAt 10 0)
+  -- right-hand sides still take every double
+  solve-any : refuses (lent (whole 1) 1 2 6 3 0 0 0) (solve loose) ≡ none
+  transpose-any : refuses (lent (whole 1) 1 2 6 3 0 0 0) (solveTranspose loose) ≡ none
   -- 14 is for an update alone
   solve-accepted : refuses (lent (whole 1) 1 2 6 3 0 1 2) (solve one) ≡ none
   transpose-accepted : refuses (lent (whole 1) 1 2 6 3 0 1 2) (solveTranspose one) ≡ none
 
 pub refusalOrder : RefusalOrder
-unfolding refuses refusalAt dimensionTest sizeTests workspaceTests refusal diagonals overflows uIndex lent sound narrow bare full one nearest eq ofBits
+unfolding refuses refusalAt dimensionTest sizeTests workspaceTests indexTests firstNonFinite diagonals overflows uIndex lent sound narrow bare full one loose nearest eq ofBits
 refusalOrder = record {
   storage-one-before-two = refl;
   storage-two-before-three = refl;
@@ -205,12 +227,18 @@ refusalOrder = record {
   fourteen-before-four = refl;
   four-before-seven = refl;
   push-seven-before-eight = refl;
+  push-seven-before-twenty-three = refl;
+  push-twenty-three-before-eight = refl;
+  push-four-before-twenty-three = refl;
+  push-diagonal = refl;
   push-eight = refl;
   push-accepted = refl;
   row-thirteen-before-fourteen = refl;
   row-fourteen-before-five = refl;
   row-five-before-seven = refl;
   row-seven-before-eight = refl;
+  row-seven-before-twenty-three = refl;
+  row-twenty-three-before-eight = refl;
   row-eight = refl;
   row-accepted = refl;
   row-at-capacity = refl;
@@ -218,6 +246,8 @@ refusalOrder = record {
   column-fourteen-before-six = refl;
   column-six-before-seven = refl;
   column-seven-before-eight = refl;
+  column-seven-before-twenty-three = refl;
+  column-twenty-three-before-eight = refl;
   column-eight = refl;
   column-accepted = refl;
   remove-thirteen-before-fourteen = refl;
@@ -226,6 +256,10 @@ refusalOrder = record {
   remove-six-before-eight = refl;
   remove-eight = refl;
   remove-accepted = refl;
+  factors-of-nan = refl;
+  row-on-nan = refl;
+  column-on-nan = refl;
+  remove-on-nan = refl;
   solve-three-before-thirteen = refl;
   solve-three-before-seven = refl;
   solve-thirteen-before-seven = refl;
@@ -236,6 +270,8 @@ refusalOrder = record {
   transpose-thirteen-before-seven = refl;
   transpose-seven-before-ten = refl;
   transpose-ten = refl;
+  solve-any = refl;
+  transpose-any = refl;
   solve-accepted = refl;
   transpose-accepted = refl;
 }

@@ -22,7 +22,7 @@ pub enum Update {
     Refused(Refusal),
 }
 
-// Appends a row and a column: 4, 7, 8.
+// Appends a row and a column: 4, 7, 23, 8.
 pub fn push(
     n: usize,
     capacity: usize,
@@ -45,7 +45,7 @@ pub fn push(
         z: z.len(),
         w: w.len(),
     };
-    let test = test_push(n, capacity, lent, row.len(), column.len());
+    let test = test_push(n, capacity, lent, row, column, diagonal);
     if let Test::Refused(refusal) = test {
         return Update::Refused(refusal);
     }
@@ -56,7 +56,7 @@ pub fn push(
     })
 }
 
-// Replaces a row: 5, 7, 8.
+// Replaces a row: 5, 7, 23, 8.
 pub fn replace_row(
     n: usize,
     capacity: usize,
@@ -79,7 +79,7 @@ pub fn replace_row(
         w: w.len(),
     };
     let outside = Refusal::RowOutOfBounds;
-    let test = test_replacement(n, capacity, lent, row, outside, values.len());
+    let test = test_replacement(n, capacity, lent, row, outside, values);
     if let Test::Refused(refusal) = test {
         return Update::Refused(refusal);
     }
@@ -90,7 +90,7 @@ pub fn replace_row(
     })
 }
 
-// Replaces a column: 6, 7, 8.
+// Replaces a column: 6, 7, 23, 8.
 pub fn replace_column(
     n: usize,
     capacity: usize,
@@ -113,7 +113,7 @@ pub fn replace_column(
         w: w.len(),
     };
     let outside = Refusal::ColumnOutOfBounds;
-    let test = test_replacement(n, capacity, lent, column, outside, values.len());
+    let test = test_replacement(n, capacity, lent, column, outside, values);
     if let Test::Refused(refusal) = test {
         return Update::Refused(refusal);
     }

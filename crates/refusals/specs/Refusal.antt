@@ -17,6 +17,7 @@ refusalOf refusal.CapacityExceeded = refused 4
 refusalOf refusal.RowOutOfBounds = refused 5
 refusalOf refusal.ColumnOutOfBounds = refused 6
 refusalOf refusal.LengthMismatch = refused 7
+refusalOf (refusal.NonFiniteData i) = refusedAt 23 i
 refusalOf refusal.InsufficientWorkspace = refused 8
 refusalOf (refusal.Singular i) = refusedAt 9 i
 refusalOf (refusal.NonFiniteDiagonal i) = refusedAt 10 i

@@ -14,7 +14,7 @@ use managed::LentLengths;
 use storage::RequiredLengths;
 use storage::storage_lengths;
 
-// Why a managed call is refused: document 01's 1 to 10 with document 02's 13 and 14, in the order in which they are tested. The Rust's InsufficientStorage
+// Why a managed call is refused: document 01's 1 to 10 with document 02's 13, 14 and 23, in the order in which they are tested. The Rust's InsufficientStorage
 // is three of them: InsufficientL, InsufficientU and UnequalWorkspaces.
 pub enum Refusal {
     InvalidDimension,
@@ -26,6 +26,7 @@ pub enum Refusal {
     RowOutOfBounds,
     ColumnOutOfBounds,
     LengthMismatch,
+    NonFiniteData(usize),
     InsufficientWorkspace,
     Singular(usize),
     NonFiniteDiagonal(usize),
@@ -51,6 +52,7 @@ pub fn refusal_number(refusal: Refusal) -> u32
         Refusal::RowOutOfBounds => 5,
         Refusal::ColumnOutOfBounds => 6,
         Refusal::LengthMismatch => 7,
+        Refusal::NonFiniteData(_) => 23,
         Refusal::InsufficientWorkspace => 8,
         Refusal::Singular(_) => 9,
         Refusal::NonFiniteDiagonal(_) => 10,

@@ -3,12 +3,12 @@ use crate::print::number;
 use crate::print::size;
 use crate::print::text;
 
-// How many calls there were, how many pair steps and differences, and how many answers of each number up to 14.
+// How many calls there were, how many pair steps and differences, and how many answers of each number up to 23.
 pub struct Counts {
     pub calls: u64,
     pub steps: u64,
     pub differences: u64,
-    pub answers: [u64; 15],
+    pub answers: [u64; 24],
 }
 
 fn more(n: u64) -> u64 {
@@ -20,7 +20,7 @@ pub fn count(before: Counts, number: usize, steps: usize) -> Counts {
     let mut counts = before;
     counts.calls = more(counts.calls);
     counts.steps = std::num::wrapping_add_u64(counts.steps, steps as u64);
-    if number < 15 {
+    if number < 24 {
         counts.answers[number] = more(counts.answers[number]);
     }
     counts
@@ -59,12 +59,14 @@ pub fn summary(lists: usize, counts: Counts) {
     number(counts.calls);
     text(b" calls, ");
     number(counts.steps);
-    text(b" pair steps, refusals 1 to 10, 13 and 14:");
+    text(b" pair steps, refusals 1 to 10, 13, 14 and 23:");
     refusals(counts);
     text(b" ");
     number(counts.answers[13]);
     text(b" ");
     number(counts.answers[14]);
+    text(b" ");
+    number(counts.answers[23]);
     text(b", ");
     number(counts.differences);
     text(b" differences\n");

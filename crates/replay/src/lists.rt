@@ -20,9 +20,9 @@ use crate::print::text;
 use crate::records::Progress;
 use crate::records::Record;
 use crate::records::advance;
+use crate::records::expected_answer;
 use crate::records::read_record;
 use crate::records::start_of;
-use crate::records::told_apart;
 use crate::sample::after;
 use crate::sample::check_word;
 use crate::sample::size;
@@ -133,7 +133,7 @@ fn replay_call(data: &[u8], list: usize, call: usize, capacity: usize, before: S
         list,
         call,
         capacity,
-        told_apart(record),
+        expected_answer(record),
         next,
         outcome,
         before.counts,
@@ -194,7 +194,7 @@ fn replay_lists(data: &[u8], lists: usize) -> Replayed {
         calls: 0,
         steps: 0,
         differences: 0,
-        answers: [0; 15],
+        answers: [0; 24],
     };
     let mut i = 0;
     while i < lists {

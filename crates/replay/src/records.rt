@@ -105,13 +105,21 @@ fn wrong_buffer(call: Call) -> usize {
 }
 
 // The answer that is expected: the stored one, where the Rust's InsufficientStorage is 3, told apart.
-pub fn told_apart(record: Record) -> Answered {
+pub fn expected_answer(record: Record) -> Answered {
     let call = record.call;
     let mut expected = record.expected;
     if expected.number == 3 {
         expected.number = wrong_buffer(call);
     }
     expected
+}
+
+// Whether a sample can have an answer of this number: 0, one of the Rust's refusals, which are 1 to 10, or 23.
+fn is_stored(number: usize) -> bool {
+    if number <= 10 {
+        return true;
+    }
+    number == 23
 }
 
 // Whether a record has a function and an answer that a sample can have.
@@ -122,7 +130,7 @@ fn is_sound(call: Call, answer: Answered, capacity: usize) -> bool {
     if call.function > FROM_STORAGE {
         return false;
     }
-    if answer.number > 10 {
+    if !is_stored(answer.number) {
         return false;
     }
     if answer.number == 0 {

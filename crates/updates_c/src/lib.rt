@@ -1,13 +1,14 @@
-// The four updates of the managed interface for a C host: the state is a dimension, a capacity and a counter, handed over as numbers. Each returns document 01's
-// number, 0 for success, and writes how many pair steps it made, 0 where it is refused.
+// The four updates of the managed interface for a C host: the state is a dimension, a capacity and a counter, handed over as numbers. Each returns the number of
+// documents 01 and 02, 0 for success, and writes how many pair steps it made, 0 where it is refused. Those that lend data name the place of an infinity or NaN.
 ghost use mathlib.Core.Path.{_≡_};
 ghost use mathlib.Core.List.{[]};
 ghost use lib.Ieee.{binary64};
 ghost use Rattle.machine.specs.Calls as calls;
 ghost use Rattle.managed.specs.Instance.{stateValue, instance};
-ghost use Rattle.answers.specs.Numbers.{movedRowAfter, movedColumnAfter};
-ghost use Rattle.answers.specs.Returned.{Returned, NoOut};
+ghost use Rattle.answers.specs.Numbers.{indexAfter, movedRowAfter, movedColumnAfter};
+ghost use Rattle.answers.specs.Returned.{Returned};
 use answers::answer_number;
+use answers::named_index;
 use answers::remove_number;
 use api::ColumnIndex;
 use api::LuMod;
@@ -28,10 +29,12 @@ pub extern "C" fn lumod_push(
     diagonal: f64,
     counter: &mut usize,
     steps: &mut usize,
+    index: &mut usize,
 ) -> u32
     ensures { λ r. ⌜ Returned binary64 (calls.push (now (row .entry)) (now (column .entry)) diagonal)
         (instance (stateValue (now (n .entry)) c (now (counter .entry))) (now (l .entry)) (now (u .entry)) (now (y .entry)) (now (z .entry)) (now (w .entry)))
-        (instance (stateValue (now (n .exit)) c (now (counter .exit))) (now (l .exit)) (now (u .exit)) (now (y .exit)) (now (z .exit)) (now (w .exit))) [] (now (steps .exit)) NoOut r ⌝ }
+        (instance (stateValue (now (n .exit)) c (now (counter .exit))) (now (l .exit)) (now (u .exit)) (now (y .exit)) (now (z .exit)) (now (w .exit))) [] (now (steps .exit))
+        (λ a. now (index .exit) ≡ indexAfter a (now (index .entry))) r ⌝ }
 {
     let state = LuMod {
         n: *n,
@@ -43,6 +46,7 @@ pub extern "C" fn lumod_push(
     *counter = pushed.state.counter;
     *steps = pushed.steps;
     let answer = pushed.answer;
+    *index = named_index(answer, *index);
     answer_number(answer)
 }
 
@@ -60,10 +64,12 @@ pub extern "C" fn lumod_replace_row(
     values: &[f64],
     counter: &mut usize,
     steps: &mut usize,
+    index: &mut usize,
 ) -> u32
     ensures { λ r. ⌜ Returned binary64 (calls.replaceRow row (now (values .entry)))
         (instance (stateValue n c (now (counter .entry))) (now (l .entry)) (now (u .entry)) (now (y .entry)) (now (z .entry)) (now (w .entry)))
-        (instance (stateValue n c (now (counter .exit))) (now (l .exit)) (now (u .exit)) (now (y .exit)) (now (z .exit)) (now (w .exit))) [] (now (steps .exit)) NoOut r ⌝ }
+        (instance (stateValue n c (now (counter .exit))) (now (l .exit)) (now (u .exit)) (now (y .exit)) (now (z .exit)) (now (w .exit))) [] (now (steps .exit))
+        (λ a. now (index .exit) ≡ indexAfter a (now (index .entry))) r ⌝ }
 {
     let state = LuMod {
         n,
@@ -74,6 +80,7 @@ pub extern "C" fn lumod_replace_row(
     *counter = row_replaced.state.counter;
     *steps = row_replaced.steps;
     let answer = row_replaced.answer;
+    *index = named_index(answer, *index);
     answer_number(answer)
 }
 
@@ -91,10 +98,12 @@ pub extern "C" fn lumod_replace_column(
     values: &[f64],
     counter: &mut usize,
     steps: &mut usize,
+    index: &mut usize,
 ) -> u32
     ensures { λ r. ⌜ Returned binary64 (calls.replaceColumn column (now (values .entry)))
         (instance (stateValue n c (now (counter .entry))) (now (l .entry)) (now (u .entry)) (now (y .entry)) (now (z .entry)) (now (w .entry)))
-        (instance (stateValue n c (now (counter .exit))) (now (l .exit)) (now (u .exit)) (now (y .exit)) (now (z .exit)) (now (w .exit))) [] (now (steps .exit)) NoOut r ⌝ }
+        (instance (stateValue n c (now (counter .exit))) (now (l .exit)) (now (u .exit)) (now (y .exit)) (now (z .exit)) (now (w .exit))) [] (now (steps .exit))
+        (λ a. now (index .exit) ≡ indexAfter a (now (index .entry))) r ⌝ }
 {
     let state = LuMod {
         n,
@@ -105,6 +114,7 @@ pub extern "C" fn lumod_replace_column(
     *counter = column_replaced.state.counter;
     *steps = column_replaced.steps;
     let answer = column_replaced.answer;
+    *index = named_index(answer, *index);
     answer_number(answer)
 }
 

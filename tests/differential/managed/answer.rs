@@ -2,7 +2,7 @@
 
 use super::call::{Call, Function, Instance};
 use super::counter;
-use super::refusals::{bad_diagonal, lengths, number, published_number};
+use super::refusals::{bad_diagonal, index, lengths, number, published_number};
 use crate::random::Random;
 
 /// All outputs that any call has besides its buffers, one beside the other. A
@@ -80,10 +80,11 @@ impl Answer {
     pub fn of_document(call: &Call, before: &Instance, outputs: Outputs) -> Self {
         let number = number(call, before);
         let mut outputs = outputs.of(before);
-        match (number, bad_diagonal(before)) {
-            (0, _) => outputs.accept(call, before),
-            (9 | 10, Some((index, _))) => outputs.index = index,
-            _ => {}
+        if number == 0 {
+            outputs.accept(call, before);
+        }
+        if let Some(index) = index(number, call, before) {
+            outputs.index = index;
         }
         Self { number, outputs }
     }

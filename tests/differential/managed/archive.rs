@@ -19,7 +19,7 @@ pub fn call_archive(call: &Call, instance: &mut Instance, outputs: Outputs) -> A
 #[rustfmt::skip]
 fn call_update(call: &Call, instance: &mut Instance, outputs: &mut Outputs) -> u32 {
     let Instance { n, c, ref mut buffers, .. } = *instance;
-    let Outputs { counter, steps, .. } = outputs;
+    let Outputs { counter, steps, index, .. } = outputs;
     let [l, u, y, z, w, row, column, _] = buffers.slices_mut();
     let (l, l_len, u, u_len) = (l.as_mut_ptr(), l.len(), u.as_mut_ptr(), u.len());
     let (y, y_len, z, z_len) = (y.as_mut_ptr(), y.len(), z.as_mut_ptr(), z.len());
@@ -30,15 +30,15 @@ fn call_update(call: &Call, instance: &mut Instance, outputs: &mut Outputs) -> u
             Function::Push => lumod_push(
                 &mut outputs.n, c, l, l_len, u, u_len, y, y_len, z, z_len, w, w_len,
                 row.as_ptr(), row.len(), column.as_ptr(), column.len(), call.diagonal,
-                counter, steps,
+                counter, steps, index,
             ),
             Function::ReplaceRow => lumod_replace_row(
                 n, c, l, l_len, u, u_len, y, y_len, z, z_len, w, w_len,
-                call.row, row.as_ptr(), row.len(), counter, steps,
+                call.row, row.as_ptr(), row.len(), counter, steps, index,
             ),
             Function::ReplaceColumn => lumod_replace_column(
                 n, c, l, l_len, u, u_len, y, y_len, z, z_len, w, w_len,
-                call.column, column.as_ptr(), column.len(), counter, steps,
+                call.column, column.as_ptr(), column.len(), counter, steps, index,
             ),
             _ => lumod_remove(
                 &mut outputs.n, c, l, l_len, u, u_len, y, y_len, z, z_len, w, w_len,

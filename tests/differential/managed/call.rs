@@ -1,10 +1,11 @@
 //! A managed call, and the instance that it is made on.
 
 use std::fmt;
+use std::slice::{from_mut, from_ref};
 
 use super::counter;
 use crate::buffers::{surplus, Buffer, Buffers, Name, VECTORS};
-use crate::data::Profile;
+use crate::data::{make_finite, Profile};
 use crate::random::Random;
 
 #[derive(Clone, Copy, PartialEq)]
@@ -66,6 +67,17 @@ impl Function {
         }
     }
 
+    /// Those of a row, a column and a diagonal that the function takes into the factors, in
+    /// the order in which their places are counted.
+    pub fn data<T>(self, row: T, column: T, diagonal: T) -> Vec<T> {
+        match self {
+            Push => vec![row, column, diagonal],
+            ReplaceRow => vec![row],
+            ReplaceColumn => vec![column],
+            _ => vec![],
+        }
+    }
+
     pub fn is_update(self) -> bool {
         matches!(self, Push | ReplaceRow | ReplaceColumn | Remove)
     }
@@ -87,6 +99,34 @@ pub struct Call {
     pub row: usize,
     pub column: usize,
     pub diagonal: f64,
+}
+
+impl Call {
+    /// The data that the call lends to the factors, part by part.
+    pub fn data<'a>(&'a self, instance: &'a Instance) -> Vec<&'a [f64]> {
+        let [row, column] = [Name::Row, Name::Column].map(|name| instance.buffers[name].slice());
+        self.function.data(row, column, from_ref(&self.diagonal))
+    }
+
+    /// The same, to be written.
+    pub fn data_mut<'a>(&'a mut self, instance: &'a mut Instance) -> Vec<&'a mut [f64]> {
+        let function = self.function;
+        let [row, column, diagonal] = self.parts_mut(instance);
+        function.data(row, column, diagonal)
+    }
+
+    /// Finite values in place of the infinities and NaNs that an update would be refused for.
+    pub fn make_data_finite(&mut self, instance: &mut Instance, random: &mut Random) {
+        for part in self.parts_mut(instance) {
+            make_finite(part, random);
+        }
+    }
+
+    /// A row, a column and a diagonal, whether the function takes them or not.
+    fn parts_mut<'a>(&'a mut self, instance: &'a mut Instance) -> [&'a mut [f64]; 3] {
+        let [.., row, column, _] = instance.buffers.slices_mut();
+        [row, column, from_mut(&mut self.diagonal)]
+    }
 }
 
 /// A dimension, a capacity and a counter, with all that is lent to their calls.

@@ -1,5 +1,6 @@
 //! Managed calls made on instances of the archive and on one of the Rust, each
-//! compared with what is expected.
+//! compared with what is expected. A call whose data document 02 refuses is not made
+//! in the Rust, which would take them.
 
 use super::answer::{Answer, Outputs};
 use super::archive::call_archive;
@@ -8,9 +9,10 @@ use super::counter::allowed;
 use super::counts::Counts;
 use super::expected::Expected;
 use super::faults::{plant, plant_in_copy, Fault};
-use super::paths::counter_paths;
+use super::paths::{counter_paths, data_paths};
 use super::plain::Plain;
 use super::published::call_rust;
+use super::refusals::NON_FINITE_DATA;
 use crate::calls::{describe, Calls, End};
 use crate::plant::Planter;
 use crate::random::Random;
@@ -64,7 +66,7 @@ impl Comparison {
         let outputs = Outputs::any(random);
         let Sides { rust, archive } = sides;
         let before = rust.clone();
-        let Some(published) = call_rust(call, rust, outputs) else {
+        let Some(published) = reference_answer(call, rust, outputs) else {
             return Err(self.report(call, &before, "the Rust panicked"));
         };
         let answer = published.finer(call, &before);
@@ -122,6 +124,7 @@ impl Comparison {
             }
             answer = answer.counted(before, steps);
             paths.extend(counter_paths(call, before, &answer));
+            paths.extend(data_paths(call, before, &answer));
         }
         self.counts.add(call, before, expected, paths);
         Ok(answer)
@@ -198,4 +201,14 @@ impl Comparison {
         self.calls
             .report(what, &Made(call, before), lent, &before.buffers)
     }
+}
+
+/// Makes the call in the Rust and gives its answer. Where the data are refused, makes no
+/// call and gives the documents' answer. None: the Rust panicked.
+fn reference_answer(call: &Call, rust: &mut Instance, outputs: Outputs) -> Option<Answer> {
+    let document = Answer::of_document(call, rust, outputs);
+    if document.number == NON_FINITE_DATA {
+        return Some(document);
+    }
+    call_rust(call, rust, outputs)
 }

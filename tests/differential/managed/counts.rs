@@ -5,12 +5,12 @@ use std::fmt;
 
 use super::call::{Call, Function, Instance, FUNCTIONS};
 use super::expected::Expected;
-use super::paths::all_paths;
+use super::paths::{all_paths, NAN_GUARDS};
 
 #[derive(Default)]
 pub struct Counts {
     /// By function, and by the number returned.
-    answers: [[u64; 15]; FUNCTIONS.len()],
+    answers: [[u64; 24]; FUNCTIONS.len()],
     /// By function and path.
     paths: [BTreeMap<&'static str, u64>; FUNCTIONS.len()],
     at_4: u64,
@@ -40,8 +40,9 @@ impl Counts {
         self.not_finite += u64::from(expected.buffers.has_result_not_finite());
     }
 
-    /// The answers and paths that have not occurred.
-    pub fn unreached(&self) -> Vec<String> {
+    /// The answers and paths that have not occurred, and the guards that have met a NaN
+    /// less often than once in a hundred of all calls.
+    pub fn unreached(&self, calls: u64) -> Vec<String> {
         let mut unreached = Vec::new();
         for function in FUNCTIONS {
             let answers = self.answers(function).into_iter();
@@ -50,7 +51,20 @@ impl Counts {
             let missing = missing.filter(|(_, count)| *count == 0);
             unreached.extend(missing.map(|(what, _)| format!("{}, {what}", function.text())));
         }
+        let least = calls / 100;
+        let nans = self.nans().into_iter();
+        let few = nans.filter(|(_, count)| *count < least);
+        unreached.extend(few.map(|(guard, _)| format!("{least} NaNs at {guard} guard")));
         unreached
+    }
+
+    /// How many NaNs each guard has met, in all functions.
+    fn nans(&self) -> [(String, u64); NAN_GUARDS.len()] {
+        let count = |path: &&str| -> u64 {
+            let counts = self.paths.iter().filter_map(|counts| counts.get(path));
+            counts.sum()
+        };
+        NAN_GUARDS.map(|(guard, paths)| (guard.to_string(), paths.iter().map(count).sum()))
     }
 
     fn answers(&self, function: Function) -> Vec<(String, u64)> {
@@ -86,6 +100,8 @@ impl fmt::Display for Counts {
                 writeln!(f, "    by path: {}", join(self.paths(function)))?;
             }
         }
+        let nans = join(self.nans().to_vec());
+        writeln!(f, "NaNs that met a guard: {nans}")?;
         let accepted: u64 = self.answers.iter().map(|answers| answers[0]).sum();
         write!(
             f,

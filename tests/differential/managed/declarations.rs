@@ -10,19 +10,19 @@ extern "C" {
         n: *mut usize, c: usize, l: *mut f64, l_len: usize, u: *mut f64, u_len: usize,
         y: *mut f64, y_len: usize, z: *mut f64, z_len: usize, w: *mut f64, w_len: usize,
         row: *const f64, row_len: usize, column: *const f64, column_len: usize, diagonal: f64,
-        counter: *mut usize, steps: *mut usize,
+        counter: *mut usize, steps: *mut usize, index: *mut usize,
     ) -> u32;
     pub fn lumod_replace_row(
         n: usize, c: usize, l: *mut f64, l_len: usize, u: *mut f64, u_len: usize,
         y: *mut f64, y_len: usize, z: *mut f64, z_len: usize, w: *mut f64, w_len: usize,
         row: usize, values: *const f64, values_len: usize,
-        counter: *mut usize, steps: *mut usize,
+        counter: *mut usize, steps: *mut usize, index: *mut usize,
     ) -> u32;
     pub fn lumod_replace_column(
         n: usize, c: usize, l: *mut f64, l_len: usize, u: *mut f64, u_len: usize,
         y: *mut f64, y_len: usize, z: *mut f64, z_len: usize, w: *mut f64, w_len: usize,
         column: usize, values: *const f64, values_len: usize,
-        counter: *mut usize, steps: *mut usize,
+        counter: *mut usize, steps: *mut usize, index: *mut usize,
     ) -> u32;
     pub fn lumod_remove(
         n: *mut usize, c: usize, l: *mut f64, l_len: usize, u: *mut f64, u_len: usize,

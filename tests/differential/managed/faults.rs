@@ -5,7 +5,7 @@ use std::mem::swap;
 use super::answer::{Answer, Outputs};
 use super::call::{Call, Function, Instance};
 use super::expected::Expected;
-use super::refusals::lengths;
+use super::refusals::{lengths, NON_FINITE_DATA};
 use crate::buffers::{Name, VECTORS};
 use crate::expectation::Place;
 use crate::places::active;
@@ -28,6 +28,12 @@ pub enum Fault {
     Number,
     WhichBuffer,
     Index,
+    IndexWritten,
+    DataPlace,
+    LastPlace,
+    PlaceInColumn,
+    DataAccepted,
+    WorkspacesBeforeData,
     Moved,
     Dimension,
     Lengths,
@@ -46,7 +52,7 @@ use Fault::*;
 /// Every kind of fault, with what it changes in the last instance, or for the last
 /// kind in the plain copy.
 #[rustfmt::skip]
-pub const FAULTS: [(Fault, &str); 26] = [
+pub const FAULTS: [(Fault, &str); 32] = [
     (Factor, "the last bit of an active entry after an update"),
     (Solution, "the last bit of an entry of a solution"),
     (SignOfZero, "the sign of a zero in a result"),
@@ -62,6 +68,12 @@ pub const FAULTS: [(Fault, &str); 26] = [
     (Number, "the returned number"),
     (WhichBuffer, "the number of another buffer: 13 for 3, 14 for 13, 3 for 14"),
     (Index, "the index of a bad diagonal"),
+    (IndexWritten, "the index, written by an update that names none"),
+    (DataPlace, "the place of refused data, one further"),
+    (LastPlace, "the last of several places of refused data in place of the first"),
+    (PlaceInColumn, "the place in a refused column of a push, counted from 0"),
+    (DataAccepted, "0 in place of 23"),
+    (WorkspacesBeforeData, "8 in place of 23"),
     (Moved, "moved row and column, exchanged"),
     (Dimension, "the dimension after an update"),
     (Lengths, "the lengths of L and U, exchanged"),
@@ -97,6 +109,7 @@ pub fn plant(
             .into_iter()
             .map(|(name, place)| Change::Place(name, place));
         let answer = wrong_answer(fault, call, expected.answer)
+            .or_else(|| wrong_place(fault, call, before, expected.answer))
             .or_else(|| wrong_count(fault, call, outputs.of(before), expected.answer));
         changes.chain(answer.map(Change::Answer)).collect()
     });
@@ -157,11 +170,32 @@ fn wrong_answer(fault: Fault, call: &Call, answer: Answer) -> Option<Answer> {
         (OutputAfterRefusal, function) if !accepted => match function {
             Function::Push => *n ^= 1,
             Function::Remove => *moved_column ^= 1,
-            Function::Solve | Function::SolveTranspose => *index ^= 1,
             Function::Ready => *ready ^= 1,
             Function::StorageLengths => *u ^= 1,
-            _ => {}
+            Function::FromStorage => {}
+            _ => *index ^= 1,
         },
+        _ => {}
+    }
+    (wrong != answer).then_some(wrong)
+}
+
+/// The same of an update that lends data, where they are refused or else no index is named.
+fn wrong_place(fault: Fault, call: &Call, before: &Instance, answer: Answer) -> Option<Answer> {
+    let mut wrong = answer;
+    let place = &mut wrong.outputs.index;
+    let values = call.data(before).concat();
+    let refused = answer.number == NON_FINITE_DATA;
+    let pushed = call.function == Function::Push;
+    match fault {
+        _ if values.is_empty() => {}
+        IndexWritten if !refused => *place ^= 1,
+        _ if !refused => {}
+        DataPlace => *place += 1,
+        LastPlace => *place = values.iter().rposition(|value| !value.is_finite())?,
+        PlaceInColumn if pushed && (before.n..2 * before.n).contains(place) => *place -= before.n,
+        DataAccepted => wrong.number = 0,
+        WorkspacesBeforeData => wrong.number = 8,
         _ => {}
     }
     (wrong != answer).then_some(wrong)

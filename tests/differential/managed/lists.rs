@@ -5,11 +5,12 @@ use super::call::{Call, Function, Instance, DATA, FUNCTIONS};
 use super::comparison::{Comparison, Sides};
 use super::counter;
 use super::refusals::number;
-use super::refused::{make_refused, other_length};
+use super::refused::{make_refused, other_length, set_non_finite_data};
 use crate::buffers::{surplus, Buffer, Name};
 use crate::calls::End;
 use crate::data::{Profile, MANAGED};
-use crate::factors::{copy_active, fill_factors, fill_unused, is_degenerate, replace_bad_diagonal};
+use crate::factors::{copy_active, fill_factors, fill_unused, is_degenerate};
+use crate::factors::{put_odd_entries, replace_bad_diagonal};
 use crate::guards;
 use crate::places::{diagonal, l_column, l_place, u_column};
 use crate::random::Random;
@@ -68,6 +69,9 @@ impl List {
         let own = room + random.below(5);
         let mut rust = Instance::new(n, own, random);
         fill_factors(&mut rust.buffers, own, n, profile, random);
+        if random.chance(1, 3) {
+            put_odd_entries(&mut rust.buffers, own, n, random);
+        }
         let archive = capacities.map(|c| Instance {
             counter: rust.counter,
             ..Instance::new(n, c, random)
@@ -85,9 +89,10 @@ impl List {
     }
 
     fn step(&mut self, random: &mut Random, comparison: &mut Comparison) -> Result<(), End> {
-        let call = self.next(random);
+        let mut call = self.next(random);
         self.lend_workspaces(&call, random);
-        self.lend_data(&call, random);
+        self.lend_data(&mut call, random);
+        self.share_data(random);
         self.at_start = false;
         if random.chance(1, 4) {
             self.call_beside(call, random, comparison)?;
@@ -152,8 +157,9 @@ impl List {
         }
     }
 
-    /// The same data for all, and the same factors at the start.
-    fn lend_data(&mut self, call: &Call, random: &mut Random) {
+    /// Data for the Rust's instance, and now and then other factors at the start. What an
+    /// update is lent is finite, but in one of eight cases some of it is not.
+    fn lend_data(&mut self, call: &mut Call, random: &mut Random) {
         let profile = self.profile.or_other(random);
         let rust = &mut self.sides.rust;
         for name in DATA {
@@ -170,6 +176,15 @@ impl List {
             0..=2 => self.data_at_guards(call, random),
             _ => {}
         }
+        let rust = &mut self.sides.rust;
+        call.make_data_finite(rust, random);
+        if random.chance(1, 8) {
+            set_non_finite_data(call, rust, random);
+        }
+    }
+
+    /// The same data for all, and the same factors at the start.
+    fn share_data(&mut self, random: &mut Random) {
         let Sides { rust, archive } = &mut self.sides;
         for instance in archive {
             for name in DATA {

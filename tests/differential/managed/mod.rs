@@ -25,7 +25,7 @@ use crate::random::Random;
 use comparison::Comparison;
 pub use faults::FAULTS;
 
-/// A run of so many calls must reach every answer and every path.
+/// A run of so many calls must reach every answer and every path, and enough NaNs at guards.
 const ENOUGH: u64 = 100_000;
 
 /// The bench table, sets of causes for a refusal, then lists. With a fault to plant
@@ -76,7 +76,7 @@ fn call_lists(random: &mut Random, comparison: &mut Comparison) -> End {
 fn summary(wanted: u64, comparison: &Comparison) -> End {
     println!("{}", comparison.counts);
     println!("{wanted} managed calls; 0 differences");
-    let unreached = comparison.counts.unreached();
+    let unreached = comparison.counts.unreached(wanted);
     if wanted >= ENOUGH && !unreached.is_empty() {
         println!("never reached: {}", unreached.join("; "));
         return End::NotReached;

@@ -4,7 +4,7 @@
 
 use super::call::{Call, Function, Instance};
 use super::pair::{Outcome, PairStep};
-use super::paths::{position, BACKWARD, FIRST_FORWARD, FORWARD, LAST_BACKWARD, TRIMMING};
+use super::paths::{position, BACKWARD, FIRST_FORWARD, FORWARD, LAST_BACKWARD, TRIMMING, WITH_NAN};
 use crate::buffers::Name;
 use crate::data::MANAGED;
 use crate::places::{active, l_place, u_place};
@@ -149,8 +149,9 @@ impl Plain {
 
     fn forward(&mut self, first: usize, last: usize, columns: usize, mut y: Vec<f64>) {
         for row in first..last {
+            let pair = [y[row], self.u[row][row]];
             let outcome = self.forward_pair(row, last, &mut y[..columns]);
-            self.note(outcome, &FORWARD);
+            self.note(pair, outcome, &FORWARD);
             if row == first {
                 self.paths.push(FIRST_FORWARD[outcome as usize]);
             }
@@ -179,6 +180,9 @@ impl Plain {
         }
         let trims = selected < self.n - 1;
         self.paths.push(TRIMMING[usize::from(trims)]);
+        if selected > first && v[selected].is_nan() {
+            self.paths.push(TRIMMING[2]);
+        }
         selected
     }
 
@@ -195,8 +199,9 @@ impl Plain {
         dense[selected..].copy_from_slice(&self.u[selected][selected..columns]);
         for row in (first..selected).rev() {
             dense[row] = 0.0;
+            let pair = [v[row], v[selected]];
             let outcome = self.backward_pair(row, selected, &mut dense[row..], v);
-            self.note(outcome, paths);
+            self.note(pair, outcome, paths);
         }
         dense
     }
@@ -221,13 +226,17 @@ impl Plain {
         step.outcome
     }
 
-    /// Counts a pair, if there was a pair step, with the path that it took.
-    fn note(&mut self, outcome: Outcome, paths: &[&'static str]) {
+    /// Counts a pair, if there was a pair step, with the paths that it took. `pair` is what
+    /// the guard met.
+    fn note(&mut self, pair: [f64; 2], outcome: Outcome, paths: &[&'static str]) {
         self.steps += match outcome {
             Outcome::Skipped => 0,
             Outcome::Cleared | Outcome::Eliminated | Outcome::Exchanged => 1,
         };
         self.paths.push(paths[outcome as usize]);
+        if pair.iter().any(|value| value.is_nan()) {
+            self.paths.push(paths[WITH_NAN]);
+        }
     }
 }
 

@@ -1,4 +1,4 @@
-//! Document 01's refusals 1 to 10 and document 02's 13 and 14: when each holds, and in
+//! Document 01's refusals 1 to 10 and document 02's 13, 14 and 23: when each holds, and in
 //! which order they are tested.
 
 use super::call::{Call, Function, Instance};
@@ -19,23 +19,34 @@ pub enum Cause {
     RowLength,
     ColumnLength,
     RightHandSideLength,
+    NonFiniteData,
     ShortWorkspaces,
     Diagonal,
 }
 
 use Cause::*;
 
+/// The refusal that the Rust does not have: it takes such data.
+pub const NON_FINITE_DATA: u32 = 23;
+
 impl Function {
     /// What the function is refused for, in the order in which it is tested: document 01's,
-    /// with U right after L and the workspaces after U, as document 02 has it.
+    /// with U right after L, the workspaces after U, and the data after their lengths, as
+    /// document 02 has it.
     pub fn causes(self) -> Vec<Cause> {
         let storage = [Dimension, Overflow, ShortL, ShortU];
         let other: &[Cause] = match self {
             Function::StorageLengths => return vec![Overflow],
             Function::FromStorage | Function::Ready => &[],
-            Function::Push => &[NoRoom, RowLength, ColumnLength, ShortWorkspaces],
-            Function::ReplaceRow => &[Row, RowLength, ShortWorkspaces],
-            Function::ReplaceColumn => &[Column, ColumnLength, ShortWorkspaces],
+            Function::Push => &[
+                NoRoom,
+                RowLength,
+                ColumnLength,
+                NonFiniteData,
+                ShortWorkspaces,
+            ],
+            Function::ReplaceRow => &[Row, RowLength, NonFiniteData, ShortWorkspaces],
+            Function::ReplaceColumn => &[Column, ColumnLength, NonFiniteData, ShortWorkspaces],
             Function::Remove => &[Row, Column, ShortWorkspaces],
             Function::Solve | Function::SolveTranspose => &[RightHandSideLength, Diagonal],
         };
@@ -80,6 +91,7 @@ impl Cause {
             RowLength => length(Name::Row) != n,
             ColumnLength => length(Name::Column) != n,
             RightHandSideLength => length(Name::RightHandSide) != n,
+            NonFiniteData => non_finite_place(call, instance).is_some(),
             ShortWorkspaces => (y.min(z).min(w) as u128) < call.function.workspace_length(n),
             Diagonal => bad_diagonal(instance).is_some(),
         }
@@ -97,6 +109,7 @@ impl Cause {
             Row => &[5],
             Column => &[6],
             RowLength | ColumnLength | RightHandSideLength => &[7],
+            NonFiniteData => &[NON_FINITE_DATA],
             ShortWorkspaces => &[8],
             Diagonal => &[9, 10],
         }
@@ -118,6 +131,15 @@ pub fn number(call: &Call, instance: &Instance) -> u32 {
     }
 }
 
+/// The index that a number comes with.
+pub fn index(number: u32, call: &Call, instance: &Instance) -> Option<usize> {
+    match number {
+        9 | 10 => bad_diagonal(instance).map(|(index, _)| index),
+        NON_FINITE_DATA => non_finite_place(call, instance),
+        _ => None,
+    }
+}
+
 /// The number by which the Rust's error is known: it has one name, InsufficientStorage,
 /// for 3, 13 and 14.
 pub fn published_number(number: u32) -> u32 {
@@ -131,6 +153,13 @@ pub fn published_number(number: u32) -> u32 {
 pub fn lengths(c: usize) -> (u128, u128) {
     let l = c as u128 * (c as u128 + 1);
     (l, l / 2)
+}
+
+/// The first place with an infinity or a NaN, counted from 0 through the row, then the
+/// column, then the diagonal that the call lends.
+pub fn non_finite_place(call: &Call, instance: &Instance) -> Option<usize> {
+    let mut values = call.data(instance).into_iter().flatten();
+    values.position(|value| !value.is_finite())
 }
 
 /// The first active diagonal entry of U that is zero, infinite or NaN: its index,

@@ -3,6 +3,7 @@
 use super::call::{Call, Function, Instance, DATA};
 use super::refusals::{lengths, Cause};
 use crate::buffers::{Buffer, Name, VECTORS};
+use crate::data::non_finite_value;
 use crate::places::diagonal;
 use crate::random::Random;
 
@@ -97,11 +98,10 @@ fn set_other(cause: Cause, call: &mut Call, instance: &mut Instance, random: &mu
         }
         Cause::Row => call.row = beyond(*n, random),
         Cause::Column => call.column = beyond(*n, random),
-        Cause::RowLength => buffers[Name::Row].set_len(other_length(*n, random), random),
-        Cause::ColumnLength => buffers[Name::Column].set_len(other_length(*n, random), random),
-        Cause::RightHandSideLength => {
-            buffers[Name::RightHandSide].set_len(other_length(*n, random), random)
-        }
+        Cause::RowLength => change_length(&mut buffers[Name::Row], *n, random),
+        Cause::ColumnLength => change_length(&mut buffers[Name::Column], *n, random),
+        Cause::RightHandSideLength => change_length(&mut buffers[Name::RightHandSide], *n, random),
+        Cause::NonFiniteData => set_non_finite_data(call, instance, random),
         Cause::ShortWorkspaces => {
             let needed = call.function.workspace_length(*n);
             shorten(&mut buffers[Name::Y], needed, random);
@@ -120,6 +120,13 @@ fn shorten(buffer: &mut Buffer, needed: u128, random: &mut Random) {
         let any = random.below(needed);
         let length = random.pick(&[needed - 1, needed - 1, 0, any]);
         buffer.set_len(length, random);
+    }
+}
+
+/// To another than n.
+fn change_length(buffer: &mut Buffer, n: usize, random: &mut Random) {
+    if buffer.len() == n {
+        buffer.set_len(other_length(n, random), random);
     }
 }
 
@@ -147,5 +154,24 @@ fn set_bad_diagonal(instance: &mut Instance, random: &mut Random) {
     for _ in 0..random.between(1, 2) {
         let bad = random.pick(&[0.0, f64::INFINITY, f64::NAN]);
         u[random.pick(&places)] = random.sign(bad);
+    }
+}
+
+/// An infinity or a NaN at a place of an update's data, or at several, or in the whole of
+/// a row or a column.
+pub fn set_non_finite_data(call: &mut Call, instance: &mut Instance, random: &mut Random) {
+    let mut parts = call.data_mut(instance);
+    parts.retain(|part| !part.is_empty());
+    if parts.is_empty() {
+        return;
+    }
+    for _ in 0..random.pick(&[1, 1, 2, 3]) {
+        let k = random.below(parts.len());
+        let part = &mut parts[k];
+        if random.chance(1, 8) {
+            part.fill_with(|| non_finite_value(random));
+        } else {
+            part[random.index(part.len())] = non_finite_value(random);
+        }
     }
 }

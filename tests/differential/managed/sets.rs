@@ -89,7 +89,7 @@ fn call_set(
 /// A call that is accepted, if the function has something to be made on at dimension n.
 fn agreeing(function: Function, n: usize, c: usize, random: &mut Random) -> (Call, Instance) {
     let profile = Profile::choose(random);
-    let call = Call {
+    let mut call = Call {
         function,
         row: random.index(n),
         column: random.index(n),
@@ -101,6 +101,7 @@ fn agreeing(function: Function, n: usize, c: usize, random: &mut Random) -> (Cal
     for name in DATA {
         instance.lend(name, n, profile, random);
     }
+    call.make_data_finite(&mut instance, random);
     let workspace = function.workspace_length(n) as usize + surplus(random);
     instance.lend_workspaces(workspace, random);
     (call, instance)

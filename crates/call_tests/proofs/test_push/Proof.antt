@@ -3,6 +3,8 @@ use Prim.Native.Nat.{_+_, _<_, _≤_}
 use native.Mathlib.Omega.{arith}
 use borrow.Author.Tests.{lt-ltb, le-ltb, eq-eqb, ne-eqb}
 use borrow.Author.Needs.{needs}
+use Rattle.machine.proofs.Refusals.{or-else-none}
+use Rattle.managed.proofs.Refusals.{storage-passed}
 use Rattle.refusals.proofs.Chain.{refused-first, passed-none}
 use Rattle.call_tests.proofs.test_push.Statement.{statement}
 use Rattle.call_tests.proofs.test_push.Tie as tie
@@ -19,19 +21,29 @@ returns-3 c = rw (passed-none (c .before .before .before .before .test-lent .ens
 returns-4 : tie.Need-returns-4
 returns-4 c = rw (passed-none (c .before .before .before .before .before .test-lent .ensures) (c .before .before .before .enum-told .given .1), ne-eqb _ _ (c .before .before .if1 .left), eq-eqb _ _ (c .before .if2 .left), ne-eqb _ _ (c .if3 .taken))
 
+test-push-data-requires : tie.Need-test-push-data-requires
+test-push-data-requires c κs =
+    let else2 : tie.Else2 = search in
+    let e : tie.After-enum-told = search in
+    let t : tie.After-test-lent = search in
+    let p = storage-passed _ _ _ _ (or-else-none _ _ (passed-none (t .test-lent .ensures) (e .enum-told .given .1)) .0) in
+    omega (arith, p .dimension, p .capacity, else2 .if2 .left, c .if3 .left)
+
 returns-5 : tie.Need-returns-5
 returns-5 c =
+    let d : tie.After-test-push-data = search in
     let else3 : tie.Else3 = search in
     let else2 : tie.Else2 = search in
     let else1 : tie.Else1 = search in
     let e : tie.After-enum-told = search in
     let t : tie.After-test-lent = search in
-    let start : tie.Start = search in
-    let a = start .args in
-    let h : a .lent .y < a .n + 1 = omega (arith, c .if4 .taken) in rw (passed-none (t .test-lent .ensures) (e .enum-told .given .1), ne-eqb _ _ (else1 .if1 .left), eq-eqb _ _ (else2 .if2 .left), eq-eqb _ _ (else3 .if3 .left), lt-ltb _ _ h)
+    rw (passed-none (t .test-lent .ensures) (e .enum-told .given .1), ne-eqb _ _ (else1 .if1 .left), eq-eqb _ _ (else2 .if2 .left), eq-eqb _ _ (else3 .if3 .left))
+    (refused-first (d .test-push-data .ensures) _ _ (c .enum-told4 .given .1))
 
 returns-6 : tie.Need-returns-6
 returns-6 c =
+    let finite : tie.After-enum-told3 = search in
+    let d : tie.After-test-push-data = search in
     let else3 : tie.Else3 = search in
     let else2 : tie.Else2 = search in
     let else1 : tie.Else1 = search in
@@ -39,7 +51,22 @@ returns-6 c =
     let t : tie.After-test-lent = search in
     let start : tie.Start = search in
     let a = start .args in
-    let h : a .n + 1 ≤ a .lent .y = omega (arith, c .if4 .left) in rw (passed-none (t .test-lent .ensures) (e .enum-told .given .1), ne-eqb _ _ (else1 .if1 .left), eq-eqb _ _ (else2 .if2 .left), eq-eqb _ _ (else3 .if3 .left), le-ltb _ _ h)
+    let h : a .lent .y < a .n + 1 = omega (arith, c .if4 .taken) in
+    rw (passed-none (t .test-lent .ensures) (e .enum-told .given .1), ne-eqb _ _ (else1 .if1 .left), eq-eqb _ _ (else2 .if2 .left), eq-eqb _ _ (else3 .if3 .left), passed-none (d .test-push-data .ensures) (finite .enum-told3 .given .1), lt-ltb _ _ h)
+
+returns-7 : tie.Need-returns-7
+returns-7 c =
+    let finite : tie.After-enum-told3 = search in
+    let d : tie.After-test-push-data = search in
+    let else3 : tie.Else3 = search in
+    let else2 : tie.Else2 = search in
+    let else1 : tie.Else1 = search in
+    let e : tie.After-enum-told = search in
+    let t : tie.After-test-lent = search in
+    let start : tie.Start = search in
+    let a = start .args in
+    let h : a .n + 1 ≤ a .lent .y = omega (arith, c .if4 .left) in
+    rw (passed-none (t .test-lent .ensures) (e .enum-told .given .1), ne-eqb _ _ (else1 .if1 .left), eq-eqb _ _ (else2 .if2 .left), eq-eqb _ _ (else3 .if3 .left), passed-none (d .test-push-data .ensures) (finite .enum-told3 .given .1), le-ltb _ _ h)
 
 pub test-push-spec : {M : Type 1} → statement M
 test-push-spec =
@@ -52,5 +79,9 @@ test-push-spec =
     returns-2
     returns-3
     returns-4
+    test-push-data-requires
+    (λ c. search needs)
+    (λ c. search needs)
     returns-5
-    returns-6)
+    returns-6
+    returns-7)

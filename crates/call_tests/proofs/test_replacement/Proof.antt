@@ -16,19 +16,32 @@ returns-3 c = rw (passed-none (c .before .before .before .before .test-lent .ens
 
 returns-4 : tie.Need-returns-4
 returns-4 c =
+    let d : tie.After-test-values = search in
     let else2 : tie.Else2 = search in
     let else1 : tie.Else1 = search in
     let e : tie.After-enum-told = search in
     let t : tie.After-test-lent = search in
-    rw (passed-none (t .test-lent .ensures) (e .enum-told .given .1), lt-leb _ _ (else1 .if1 .left), eq-eqb _ _ (else2 .if2 .left), lt-ltb _ _ (c .if3 .taken))
+    rw (passed-none (t .test-lent .ensures) (e .enum-told .given .1), lt-leb _ _ (else1 .if1 .left), eq-eqb _ _ (else2 .if2 .left)) (refused-first (d .test-values .ensures) _ _ (c .enum-told4 .given .1))
 
 returns-5 : tie.Need-returns-5
 returns-5 c =
+    let finite : tie.After-enum-told3 = search in
+    let d : tie.After-test-values = search in
     let else2 : tie.Else2 = search in
     let else1 : tie.Else1 = search in
     let e : tie.After-enum-told = search in
     let t : tie.After-test-lent = search in
-    rw (passed-none (t .test-lent .ensures) (e .enum-told .given .1), lt-leb _ _ (else1 .if1 .left), eq-eqb _ _ (else2 .if2 .left), le-ltb _ _ (c .if3 .left))
+    rw (passed-none (t .test-lent .ensures) (e .enum-told .given .1), lt-leb _ _ (else1 .if1 .left), eq-eqb _ _ (else2 .if2 .left), passed-none (d .test-values .ensures) (finite .enum-told3 .given .1), lt-ltb _ _ (c .if3 .taken))
+
+returns-6 : tie.Need-returns-6
+returns-6 c =
+    let finite : tie.After-enum-told3 = search in
+    let d : tie.After-test-values = search in
+    let else2 : tie.Else2 = search in
+    let else1 : tie.Else1 = search in
+    let e : tie.After-enum-told = search in
+    let t : tie.After-test-lent = search in
+    rw (passed-none (t .test-lent .ensures) (e .enum-told .given .1), lt-leb _ _ (else1 .if1 .left), eq-eqb _ _ (else2 .if2 .left), passed-none (d .test-values .ensures) (finite .enum-told3 .given .1), le-ltb _ _ (c .if3 .left))
 
 pub test-replacement-spec : {M : Type 1} → statement M
 test-replacement-spec =
@@ -40,5 +53,9 @@ test-replacement-spec =
     returns
     returns-2
     returns-3
+    (λ c κs. search needs)
+    (λ c. search needs)
+    (λ c. search needs)
     returns-4
-    returns-5)
+    returns-5
+    returns-6)

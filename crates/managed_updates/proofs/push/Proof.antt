@@ -7,6 +7,7 @@ use borrow.Author.Needs.{needs}
 use Rattle.numbers.specs.NumberForm.{NumberForm, ieee}
 use Rattle.numbers.specs.Tolerances.{managedEpsilon, managedTiny}
 use Rattle.machine.specs.Calls as calls
+use Rattle.machine.specs.LentData.{dataTest}
 use Rattle.machine.specs.Machine.{accepted}
 use Rattle.managed.specs.Instance.{stateValue, instance}
 use Rattle.managed.proofs.Outcomes.{outcome-refused, outcome-updated}
@@ -32,14 +33,18 @@ push-requires : tie.Need-push-requires
 push-requires c κs =
     let e : tie.After-enum-told = search in
     let t : tie.After-test-push = search in
-    let r = push-passed _ _ _ _ _ (passed-none (t .test-push .ensures) (e .enum-told .given .1)) in
+    let start : tie.Start = search in
+    let a = start .args in
+    let r = push-passed _ _ _ _ _ (dataTest N (calls.push (now (a .row)) (now (a .column)) (a .diagonal))) (passed-none (t .test-push .ensures) (e .enum-told .given .1)) in
     (room N _ (omega (arith, r .1)) (r .0 .storage), (omega (arith, r .0 .y), (omega (arith, r .0 .w), (omega (arith, r .2), omega (arith, r .3)))))
 
-add-t18 : tie.Need-add-t18
-add-t18 c =
+add-t15 : tie.Need-add-t15
+add-t15 c =
     let e : tie.After-enum-told = search in
     let t : tie.After-test-push = search in
-    let r = push-passed _ _ _ _ _ (passed-none (t .test-push .ensures) (e .enum-told .given .1)) in
+    let start : tie.Start = search in
+    let a = start .args in
+    let r = push-passed _ _ _ _ _ (dataTest N (calls.push (now (a .row)) (now (a .column)) (a .diagonal))) (passed-none (t .test-push .ensures) (e .enum-told .given .1)) in
     omega (arith, r .1, r .0 .storage .capacity)
 
 returns-2 : tie.Need-returns-2
@@ -65,7 +70,7 @@ push-spec =
     returns
     (λ c. search needs)
     push-requires
-    add-t18
+    add-t15
     (λ c. search needs)
     (λ c. search needs)
     (λ c. search needs)

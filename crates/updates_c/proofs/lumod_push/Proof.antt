@@ -1,4 +1,4 @@
--- `lumod_push`: the outcome of `LuMod::push`, and its number.
+-- `lumod_push`: the outcome of `LuMod::push`, its number, and the place that it names.
 use borrow.Author.Needs.{needs}
 use denote.Ref.{now}
 use lib.Ieee.{binary64}
@@ -13,12 +13,13 @@ returns c =
     let p : tie.After-push = search in
     let start : tie.Start = search in
     let a = start .args in
-    returned binary64 (calls.push (now (a .row)) (now (a .column)) (a .diagonal)) (instance (stateValue (now (a .n)) (a .c) (now (a .counter))) (now (a .l)) (now (a .u)) (now (a .y)) (now (a .z)) (now (a .w))) (p .push .ensures) (c .answer-number .ensures) tt
+    returned binary64 (calls.push (now (a .row)) (now (a .column)) (a .diagonal)) (instance (stateValue (now (a .n)) (a .c) (now (a .counter))) (now (a .l)) (now (a .u)) (now (a .y)) (now (a .z)) (now (a .w))) (p .push .ensures) (c .answer-number .ensures) (c .before .named-index .ensures)
 
 pub lumod-push-spec : {M : Type 1} → statement M
 lumod-push-spec =
     tie.close
     (tie.spec
+    (λ c κs. search needs)
     (λ c κs. search needs)
     (λ c κs. search needs)
     (λ c. search needs)

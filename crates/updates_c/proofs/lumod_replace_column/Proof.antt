@@ -1,4 +1,4 @@
--- `lumod_replace_column`: the outcome of `LuMod::replace_column`, and its number.
+-- `lumod_replace_column`: the outcome of `LuMod::replace_column`, its number, and the place that it names.
 use borrow.Author.Needs.{needs}
 use denote.Ref.{now}
 use lib.Ieee.{binary64}
@@ -16,12 +16,13 @@ returns c =
     let start : tie.Start = search in
     let a = start .args in
     let s = instance (stateValue (a .n) (a .c) (now (a .counter))) (now (a .l)) (now (a .u)) (now (a .y)) (now (a .z)) (now (a .w)) in
-    returned-staying binary64 (calls.replaceColumn (a .column) (now (a .values))) s (r .replace-column .ensures) (c .answer-number .ensures) tt (column-stays (ieee binary64) (managedEpsilon binary64) (managedTiny binary64) (a .column) (now (a .values)) s)
+    returned-staying binary64 (calls.replaceColumn (a .column) (now (a .values))) s (r .replace-column .ensures) (c .answer-number .ensures) (c .before .named-index .ensures) (column-stays (ieee binary64) (managedEpsilon binary64) (managedTiny binary64) (a .column) (now (a .values)) s)
 
 pub lumod-replace-column-spec : {M : Type 1} → statement M
 lumod-replace-column-spec =
     tie.close
     (tie.spec
+    (λ c κs. search needs)
     (λ c κs. search needs)
     (λ c κs. search needs)
     (λ c. search needs)

@@ -1,4 +1,4 @@
--- `lumod_replace_row`: the outcome of `LuMod::replace_row`, and its number.
+-- `lumod_replace_row`: the outcome of `LuMod::replace_row`, its number, and the place that it names.
 use borrow.Author.Needs.{needs}
 use denote.Ref.{now}
 use lib.Ieee.{binary64}
@@ -16,12 +16,13 @@ returns c =
     let start : tie.Start = search in
     let a = start .args in
     let s = instance (stateValue (a .n) (a .c) (now (a .counter))) (now (a .l)) (now (a .u)) (now (a .y)) (now (a .z)) (now (a .w)) in
-    returned-staying binary64 (calls.replaceRow (a .row) (now (a .values))) s (r .replace-row .ensures) (c .answer-number .ensures) tt (row-stays (ieee binary64) (managedEpsilon binary64) (managedTiny binary64) (a .row) (now (a .values)) s)
+    returned-staying binary64 (calls.replaceRow (a .row) (now (a .values))) s (r .replace-row .ensures) (c .answer-number .ensures) (c .before .named-index .ensures) (row-stays (ieee binary64) (managedEpsilon binary64) (managedTiny binary64) (a .row) (now (a .values)) s)
 
 pub lumod-replace-row-spec : {M : Type 1} → statement M
 lumod-replace-row-spec =
     tie.close
     (tie.spec
+    (λ c κs. search needs)
     (λ c κs. search needs)
     (λ c κs. search needs)
     (λ c. search needs)
