@@ -20,6 +20,7 @@ module _ (N : NumberForm) where
   abbrev pub finiteAt : List Value → ℕ → Bool
   finiteAt xs i = isFinite (getD xs i absent)
 
+  -- 23 with that place
   abbrev named : ℕ → Option Answer
   named k = some (refusedAt 23 k)
 

@@ -33,7 +33,7 @@ module _ (N : NumberForm) where
 found : Call Float → Option Answer
 found = dataTest (ieee binary64)
 
--- finite values: the largest double, the least above zero, and a zero
+-- the largest double and the least above zero, which are finite
 largest : Float
 largest = ofBits binary64 0x7FEF_FFFF_FFFF_FFFF
 

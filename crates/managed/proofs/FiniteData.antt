@@ -1,12 +1,12 @@
 -- No NaN goes into a model: 23 against the data, in both directions, and how the places of a push are counted.
 use mathlib.Core.Path.{_≡_, refl, sym, ap, _∙_}
-use mathlib.Core.Bool.{Bool, true, false, cond, true≢false}
+use mathlib.Core.Bool.{true, false, not, cond, true≢false}
 use mathlib.Core.List.{List, [], _∷_, _++_}
 use mathlib.Core.Logic.{_≢_}
 use mathlib.Core.Option.{Option, none, some}
 use Prim.Native.Nat.{ℕ, zero, suc, _+_, _≤_, _<_}
 use native.Mathlib.Omega.{arith}
-use lib.Dec.{ltb, eqb, eqb→eq}
+use lib.Dec.{T as So, ltb, eqb, eqb→eq}
 use lib.ListN.{length, length-append, getD, List·getD-append}
 use lib.Ieee.{Float, nan, Format}
 use borrow.Author.Tests.{eq-eqb, lt-leb}
@@ -15,6 +15,7 @@ use Rattle.numbers.specs.Tolerances.{managedEpsilon, managedTiny}
 use Rattle.machine.specs.Calls.{Call, push, replaceRow, replaceColumn, remove, solve, solveTranspose, Answer, refused, refusedAt, numberOf, refusalNumber, _orElse_, isPush, isUpdate}
 use Rattle.machine.specs.LentData.{lentData, firstNonFinite, dataTest}
 use Rattle.machine.specs.Machine.{indexTests}
+use Rattle.machine.proofs.Choice.{neqb→ne}
 use Rattle.machine.proofs.Refusals.{or-else-none, refuse-if-false, equations-hold, equation-holds, index-within, none-is-some}
 use Rattle.machine.proofs.Numbered.{Numbered, when-numbered, test-numbered, index-numbered}
 use Rattle.machine.proofs.LentData.{finiteAt, First, first-found, all-finite}
@@ -30,18 +31,21 @@ use Rattle.managed.proofs.Answered.{answer-number, answered-0}
 
 -- another number than 23
 abbrev Other : ℕ → Type 0
-Other k = k ≢ 23
+Other k = So (not (eqb k 23))
+
+number-differs : (o : Option Answer) (a : Answer) → Numbered Other o → o ≡ some a → numberOf a ≢ 23
+number-differs o a h e = neqb→ne (numberOf a) 23 (h a e)
 
 -- a part that gives other numbers was passed by
 passed-by : (o p : Option Answer) → Numbered Other o → refusalNumber (o orElse p) ≡ 23 → (o ≡ none) × (refusalNumber p ≡ 23)
 passed-by none p h e = (refl, e)
-passed-by (some a) p h e = absurd (h a refl e)
+passed-by (some a) p h e = absurd (number-differs (some a) a h refl e)
 
 -- before such a part it was given
 gave : (o p : Option Answer) → Numbered Other p → refusalNumber (o orElse p) ≡ 23 → (a : Answer) × (o ≡ some a)
 gave (some a) p h e = (a, refl)
 gave none none h e = absurd (omega (arith, e))
-gave none (some a) h e = absurd (h a refl e)
+gave none (some a) h e = absurd (number-differs (some a) a h refl e)
 
 module _ (N : NumberForm) (s : Instance (N .Value)) where
   open NumberForm N using (Value)
@@ -87,10 +91,10 @@ module _ (N : NumberForm) (s : Instance (N .Value)) where
   given-23 : (c : Call Value) → refusalNumber (refusalAt N s c) ≡ 23 → Given c
   unfolding refusalAt
   given-23 c e =
-      let lent = passed-by (lends s c) _ (lent-numbered Other (λ z. omega (arith, z)) (λ z. omega (arith, z)) (λ z. omega (arith, z)) (λ z. omega (arith, z)) (λ z. omega (arith, z)) (isUpdate c) (s .n) (s .c) (lengthsOf s)) e in
-      let capacity = passed-by _ _ (when-numbered Other (isPush c) _ (test-numbered Other (eqb (s .n) (s .c)) 4 (λ z. omega (arith, z)))) (lent .1) in
-      let indices = passed-by _ _ (index-numbered Other (λ z. omega (arith, z)) (λ z. omega (arith, z)) (λ z. omega (arith, z)) (λ z. omega (arith, z)) (λ z. omega (arith, z)) N (view N s) c) (capacity .1) in
-      let found = gave (dataTest N c) _ (when-numbered Other (isUpdate c) _ (test-numbered Other (ltb (length (s .y)) (reached s c)) 8 (λ z. omega (arith, z)))) (indices .1) in
+      let lent = passed-by (lends s c) _ (lent-numbered Other tt tt tt tt tt (isUpdate c) (s .n) (s .c) (lengthsOf s)) e in
+      let capacity = passed-by _ _ (when-numbered Other (isPush c) _ (test-numbered Other (eqb (s .n) (s .c)) 4 tt)) (lent .1) in
+      let indices = passed-by _ _ (index-numbered Other tt tt tt tt tt N (view N s) c) (capacity .1) in
+      let found = gave (dataTest N c) _ (when-numbered Other (isUpdate c) _ (test-numbered Other (ltb (length (s .y)) (reached s c)) 8 tt)) (indices .1) in
       record {
         is-lent = lent .0;
         agree = agrees c (storage-passed _ _ _ _ (or-else-none _ _ (lent .0) .0) .dimension) (capacity .0) (indices .0) (found .1);
