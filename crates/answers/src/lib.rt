@@ -1,4 +1,6 @@
 // The answers of the managed calls as a C host gets them: numbers.
+#![tactic(auto)]
+
 ghost use Rattle.std.specs.Prelude.{◌≡◌};
 ghost use Rattle.machine.specs.Calls.{number_of};
 ghost use Rattle.api.specs.Answers.{answer_of, moved_row_of, moved_column_of, remove_answer_of};

@@ -1,4 +1,6 @@
 // The managed interface: a dimension, a capacity and a counter by value, and storage lent to each call.
+#![tactic(auto)]
+
 ghost use Rattle.std.specs.Prelude.{◌≡◌, length};
 ghost use Rattle.std.specs.Float.{binary64};
 ghost use Rattle.numbers.specs.NumberForm.{ieee};
@@ -23,7 +25,7 @@ use refusals::{Refusal, Test, test_storage};
 use storage::{RequiredLengths, storage_lengths};
 
 // The dimension and the capacity of factors whose storage the caller keeps, and the counter of the pair steps that their updates made.
-#[derive(Drop)]
+#[derive(Clone, Copy)]
 pub struct LuMod {
     pub n: usize,
     pub capacity: usize,
@@ -31,57 +33,57 @@ pub struct LuMod {
 }
 
 // The index of a row of the matrix.
-#[derive(Drop)]
+#[derive(Clone, Copy)]
 pub struct RowIndex(pub usize);
 
 // The index of a column of the matrix.
-#[derive(Drop)]
+#[derive(Clone, Copy)]
 pub struct ColumnIndex(pub usize);
 
 // The row that a remove moved to the place of the removed one, by its old index.
-#[derive(Drop)]
+#[derive(Clone, Copy)]
 pub enum MovedRow {
     Moved(RowIndex),
     Nothing,
 }
 
 // The same of columns.
-#[derive(Drop)]
+#[derive(Clone, Copy)]
 pub enum MovedColumn {
     Moved(ColumnIndex),
     Nothing,
 }
 
 // What a remove moved.
-#[derive(Drop)]
+#[derive(Clone, Copy)]
 pub struct Removal {
     pub moved_row: MovedRow,
     pub moved_column: MovedColumn,
 }
 
 // What a call answers, remove apart.
-#[derive(Drop)]
+#[derive(Clone, Copy)]
 pub enum Answer {
     Done,
     Refused(Refusal),
 }
 
 // What remove answers.
-#[derive(Drop)]
+#[derive(Clone, Copy)]
 pub enum RemoveAnswer {
     Removed(Removal),
     Refused(Refusal),
 }
 
 // What a solve hands back: the state for the next call, and its answer.
-#[derive(Drop)]
+#[derive(Clone, Copy)]
 pub struct CallResult {
     pub state: LuMod,
     pub answer: Answer,
 }
 
 // The same of an update, remove apart, with how many pair steps it made: 0 where it was refused.
-#[derive(Drop)]
+#[derive(Clone, Copy)]
 pub struct UpdateResult {
     pub state: LuMod,
     pub answer: Answer,
@@ -89,7 +91,7 @@ pub struct UpdateResult {
 }
 
 // The same of remove.
-#[derive(Drop)]
+#[derive(Clone, Copy)]
 pub struct RemoveResult {
     pub state: LuMod,
     pub answer: RemoveAnswer,
@@ -97,7 +99,7 @@ pub struct RemoveResult {
 }
 
 // What adopting storage answers.
-#[derive(Drop)]
+#[derive(Clone, Copy)]
 pub enum Adoption {
     Adopted(LuMod),
     Refused(Refusal),

@@ -1,4 +1,6 @@
 // Document 01's bench table, computed by the code: a line for each row.
+#![tactic(auto)]
+
 ghost use Rattle.std.specs.Prelude.{◌<◌, ◌≤◌};
 
 mod factors;

@@ -1,5 +1,7 @@
 // The tests of the updates and the solves, each in its call's order: first what the call lends, 1, 2, 3, 13 and for an update 14, then its own. A test only
 // reads.
+#![tactic(auto)]
+
 ghost use Rattle.std.specs.Prelude.{◌≡◌, ◌+◌, length};
 ghost use Rattle.std.proofs.Math.Option.{none};
 ghost use Rattle.std.specs.Float.{binary64};

@@ -1,4 +1,6 @@
 // The counter of pair steps, which the caller keeps with the dimension. It stops at 999,999, and a larger figure counts as that.
+#![tactic(auto)]
+
 ghost use Rattle.std.specs.Prelude.{◌≡◌, ◌+◌};
 ghost use Rattle.machine.specs.Counter.{capped};
 

@@ -1,4 +1,6 @@
 // The search for a diagonal of U that no solve can divide by.
+#![tactic(auto)]
+
 ghost use Rattle.std.specs.Prelude.{◌≡◌};
 ghost use Rattle.std.specs.Float.{binary64};
 ghost use Rattle.numbers.specs.NumberForm.{ieee};
@@ -10,7 +12,7 @@ use numerics::real::is_finite;
 use storage::u_index;
 
 // What the search finds: no diagonal that a solve can't divide by, or the index of the first, which is zero, or infinite or NaN.
-#[derive(Drop)]
+#[derive(Clone, Copy)]
 pub enum Diagonal {
     Sound,
     Zero(usize),

@@ -121,7 +121,7 @@ rationals = record {
   add_neg = λ a. equation (λ a b c. a ⊞ ⊟ a) (λ a b c. class 𝟘) (λ x y z. sound (plus x (negative x)) 𝟘 (plus_negative x)) a a a;
   mul_assoc = equation (λ a b c. a ⊠ b ⊠ c) (λ a b c. a ⊠ (b ⊠ c)) (λ x y z. sound (times (times x y) z) (times x (times y z)) (times_assoc x y z));
   mul_comm = λ a b. equation (λ a b c. a ⊠ b) (λ a b c. b ⊠ a) (λ x y z. sound (times x y) (times y x) (times_comm x y)) a b a;
-  mul-one = λ a. equation (λ a b c. a ⊠ class 𝟙) (λ a b c. a) (λ x y z. sound (times x 𝟙) x (times_one x)) a a a;
+  mul_one = λ a. equation (λ a b c. a ⊠ class 𝟙) (λ a b c. a) (λ x y z. sound (times x 𝟙) x (times_one x)) a a a;
   distrib = equation (λ a b c. (a ⊞ b) ⊠ c) (λ a b c. a ⊠ c ⊞ b ⊠ c) (λ x y z. sound (times (plus x y) z) (plus (times x z) (times y z)) (plus_times x y z));
 }
 

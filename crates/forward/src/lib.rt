@@ -1,4 +1,6 @@
 // Forward: a row below U's diagonal is eliminated by the rows above it, and takes its place in U.
+#![tactic(auto)]
+
 ghost use Rattle.std.specs.Prelude.{◌≡◌, [], ◌≤◌, ◌<◌, length};
 ghost use Rattle.std.specs.Float.{binary64};
 ghost use Rattle.numbers.specs.NumberForm.{ieee};

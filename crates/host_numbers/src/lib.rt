@@ -1,4 +1,6 @@
 // The sizes that a C host's numbers stand for.
+#![tactic(auto)]
+
 ghost use Rattle.std.specs.Prelude.{◌≡◌, ◌^◌, ◌<◌};
 ghost use Rattle.host_numbers.specs.Numbers.{size_of, stride_of};
 ghost use Rattle.host_numbers.specs.Numbers;

@@ -1,4 +1,6 @@
 // The test of the data that an update lends to the model: 23, with the first place where a value is infinite or NaN. It only reads.
+#![tactic(auto)]
+
 ghost use Rattle.std.specs.Prelude.{◌≡◌, ◌+◌, ◌^◌, ◌<◌, length};
 ghost use Rattle.std.specs.Float.{binary64};
 ghost use Rattle.numbers.specs.NumberForm.{ieee};

@@ -1,4 +1,6 @@
 // The zero-based calls for a C host: numbers are i32, a slice is a pointer and a length. include/lumod.h is their header.
+#![tactic(auto)]
+
 ghost use Rattle.std.specs.Float.{binary64};
 ghost use Rattle.numbers.specs.NumberForm.{ieee};
 ghost use Rattle.numbers.specs.Tolerances.{zero_based_epsilon, zero_based_tiny};

@@ -1,5 +1,7 @@
 // The managed calls for a C host that change no factor: lengths, adoption, ready and the solves. The state is a dimension and a capacity, handed over as numbers.
 // Each returns its refusal's number, 0 for success.
+#![tactic(auto)]
+
 ghost use Rattle.std.specs.Prelude.{◌≡◌, length};
 ghost use Rattle.std.specs.Float.{binary64};
 ghost use Rattle.numbers.specs.NumberForm.{ieee};

@@ -1,4 +1,6 @@
 // The two managed solves on a dimension, a capacity and lent slices: each is tested, and then either refused, with nothing written, or carried out.
+#![tactic(auto)]
+
 ghost use Rattle.std.specs.Float.{binary64};
 ghost use Rattle.machine.specs.Calls as calls;
 ghost use Rattle.managed_solves.specs.Attempted.{Attempted};

@@ -1,4 +1,6 @@
 // The four managed updates on a dimension, a capacity and lent slices: each is tested, and then either refused, with nothing written, or carried out.
+#![tactic(auto)]
+
 ghost use Rattle.std.specs.Float.{binary64};
 ghost use Rattle.machine.specs.Calls as calls;
 ghost use Rattle.managed_updates.specs.Attempted.{report_of, remove_report_of, Attempted};
@@ -9,14 +11,14 @@ use numerics::tolerance::managed;
 use refusals::{Refusal, Test};
 
 // What an update that was carried out leaves: the dimension, and how many pair steps it made.
-#[derive(Drop)]
+#[derive(Clone, Copy)]
 pub struct Made {
     pub dimension: usize,
     pub steps: usize,
 }
 
 // What an update came to.
-#[derive(Drop)]
+#[derive(Clone, Copy)]
 pub enum Update {
     Made(Made),
     Refused(Refusal),

@@ -7,7 +7,7 @@ ghost use Rattle.numbers.specs.PairStep.{Stepped, first, second};
 use crate::real::abs;
 
 // What a pair step found: whether the two are exchanged, and what multiple of the first is added to the second.
-#[derive(Drop)]
+#[derive(Clone, Copy)]
 pub struct Transform {
     pub swap: bool,
     pub multiplier: f64,

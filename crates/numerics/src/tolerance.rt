@@ -4,7 +4,7 @@ ghost use Rattle.std.specs.Float.{binary64};
 ghost use Rattle.numbers.specs.Tolerances.{managed_epsilon, managed_tiny, zero_based_epsilon, zero_based_tiny};
 
 // E and T.
-#[derive(Drop)]
+#[derive(Clone, Copy)]
 pub struct Numerics {
     pub epsilon: f64,
     pub tiny: f64,

@@ -1,4 +1,6 @@
 // The L product of a vector, plain and transposed.
+#![tactic(auto)]
+
 ghost use Rattle.std.specs.Prelude.{◌+◌, ◌≤◌, length};
 ghost use Rattle.std.specs.Float.{binary64};
 ghost use Rattle.numbers.specs.NumberForm.{ieee};
@@ -9,7 +11,7 @@ ghost use Rattle.products.specs.LProducts.{l_product, l_product_transposed, l_pr
 use ranges::{add_multiple, dot, fill};
 
 // The sums of four rows.
-#[derive(Drop)]
+#[derive(Clone, Copy)]
 struct FourSums {
     first: f64,
     second: f64,

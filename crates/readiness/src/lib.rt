@@ -1,4 +1,6 @@
 // Whether a solve would be carried out, on a dimension, a capacity and lent slices.
+#![tactic(auto)]
+
 ghost use Rattle.std.specs.Prelude.{◌≡◌, length};
 ghost use Rattle.std.specs.Float.{binary64};
 ghost use Rattle.numbers.specs.NumberForm.{ieee};
@@ -11,7 +13,7 @@ ghost use Rattle.readiness.specs.Readiness.{readiness_of};
 use refusals::{Refusal, Test, test_diagonals, test_storage};
 
 // Whether a solve would divide by sound diagonals alone.
-#[derive(Drop)]
+#[derive(Clone, Copy)]
 pub enum Readiness {
     Ready,
     NotReady,

@@ -1,4 +1,6 @@
 // The refusals by their names, and the tests that calls share: of storage, of workspaces, of the diagonal. A test only reads.
+#![tactic(auto)]
+
 ghost use Rattle.std.specs.Prelude.{◌≡◌, true};
 ghost use Rattle.std.specs.Float.{binary64};
 ghost use Rattle.numbers.specs.NumberForm.{ieee};
@@ -14,7 +16,7 @@ use storage::{RequiredLengths, storage_lengths};
 
 // Why a managed call is refused: document 01's 1 to 10 with document 02's 13, 14 and 23, in the order in which they are tested. The Rust's InsufficientStorage
 // is three of them: InsufficientL, InsufficientU and UnequalWorkspaces.
-#[derive(Drop)]
+#[derive(Clone, Copy)]
 pub enum Refusal {
     InvalidDimension,
     SizeOverflow,
@@ -32,7 +34,7 @@ pub enum Refusal {
 }
 
 // What a test answers.
-#[derive(Drop)]
+#[derive(Clone, Copy)]
 pub enum Test {
     Passed,
     Refused(Refusal),

@@ -9,7 +9,7 @@ const NOTHING: usize = 0xFFFF_FFFF_FFFF_FFFF;
 
 // What a call answers: 0 or its refusal's number, the state that it hands back, the index that a refusal names (the diagonal with 9 and 10, the place in the data
 // with 23), what remove moved, and how many pair steps an update made. A sample has no pair steps: they are added up and not compared.
-#[derive(Drop)]
+#[derive(Clone, Copy)]
 pub struct Answered {
     pub number: usize,
     pub dimension: usize,

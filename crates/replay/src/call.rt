@@ -8,7 +8,7 @@ use crate::buffers::Buffers;
 use api::{ColumnIndex, LuMod, RowIndex};
 
 // A call's function, the lengths of the buffers that it lends, its dimension and capacity, and its data besides the two vectors.
-#[derive(Drop)]
+#[derive(Clone, Copy)]
 pub struct Call {
     pub function: usize,
     pub l: usize,

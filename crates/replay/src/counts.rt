@@ -2,7 +2,7 @@
 use crate::print::{number, size, text};
 
 // How many calls there were, how many pair steps and differences, and how many answers of each number up to 23.
-#[derive(Drop)]
+#[derive(Clone, Copy)]
 pub struct Counts {
     pub calls: u64,
     pub steps: u64,

@@ -1,5 +1,7 @@
 // Replays a stored sample of the published Rust's answers: every list of managed calls is made again, and after each call the answer, the dimension, the
 // active factors and the right-hand side are compared with the stored ones. README.md has the sample's form.
+#![tactic(auto)]
+
 ghost use Rattle.std.specs.Prelude.{◌≡◌, length};
 
 mod answer;

@@ -8,7 +8,7 @@ use crate::sample::{after, double, length, size, word};
 const LARGEST_CAPACITY: usize = 15;
 
 // How far a list has come: the position in the sample, the dimension and where the factors are stored.
-#[derive(Drop)]
+#[derive(Clone, Copy)]
 pub struct Progress {
     pub malformed: bool,
     pub at: usize,
@@ -17,7 +17,7 @@ pub struct Progress {
 }
 
 // A record of a call with what is expected of it, and the positions of its two vectors and of what the call left.
-#[derive(Drop)]
+#[derive(Clone, Copy)]
 pub struct Record {
     pub call: Call,
     pub expected: Answered,

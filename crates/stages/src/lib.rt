@@ -1,4 +1,6 @@
 // Stages of the updates of the factors.
+#![tactic(auto)]
+
 ghost use Rattle.std.specs.Prelude.{◌≡◌, [], ◌-◌, ◌≤◌, ◌<◌, length};
 ghost use Rattle.std.specs.Float.{binary64};
 ghost use Rattle.numbers.specs.NumberForm.{ieee};

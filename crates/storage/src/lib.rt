@@ -1,16 +1,18 @@
 // Where the factors stand in lent storage: its lengths for a capacity, and the places of L, of the packed triangle U and of the solve work.
+#![tactic(auto)]
+
 ghost use Rattle.std.specs.Prelude.{◌≡◌, ◌<◌, ◌≤◌, ◌*◌, ◌^◌};
 ghost use Rattle.storage.specs.Places.{l_length, u_length, l_index, u_index, work_index};
 ghost use Rattle.storage.specs.Lengths.{answer_of, required_lengths};
 
 // How many doubles each buffer needs.
-#[derive(Drop)]
+#[derive(Clone, Copy)]
 pub struct StorageLengths {
     pub l: usize,
     pub u: usize,
 }
 
-#[derive(Drop)]
+#[derive(Clone, Copy)]
 pub enum RequiredLengths {
     Lengths(StorageLengths),
     SizeOverflow,

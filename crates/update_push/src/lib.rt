@@ -1,4 +1,6 @@
 // Appending a row and a column to the factors, on lent slices. The workspaces' first n entries are scratch.
+#![tactic(auto)]
+
 ghost use Rattle.std.specs.Prelude.{◌-◌, ◌≤◌, ◌<◌, length};
 ghost use Rattle.std.specs.Float.{binary64};
 ghost use Rattle.numbers.specs.NumberForm.{ieee};

@@ -1,4 +1,6 @@
 // Replacing a row of the matrix, on lent slices. The workspaces' first n entries are scratch.
+#![tactic(auto)]
+
 ghost use Rattle.std.specs.Prelude.{◌≤◌, ◌<◌, length};
 ghost use Rattle.std.specs.Float.{binary64};
 ghost use Rattle.numbers.specs.NumberForm.{ieee};

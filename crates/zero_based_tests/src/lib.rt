@@ -1,4 +1,6 @@
 // What the zero-based calls refuse.
+#![tactic(auto)]
+
 ghost use Rattle.std.specs.Prelude.{◌≡◌, ◌^◌, ◌<◌};
 ghost use Rattle.zero_based_tests.specs.Refusals.{index_outside, passed_over, update_lacks_room, product_lacks_room, solve_lacks_room};
 

@@ -1,0 +1,13 @@
+-- `clear_l_column`: one entry a turn.
+use Prim.Native.Nat.{◌-◌, ◌≤◌}
+use lib.Ieee.{binary64}
+use Rattle.numbers.specs.NumberForm.{NumberForm, ieee}
+use Rattle.storage.specs.Places.{l_index}
+use Rattle.ranges.specs.Written.{Written}
+use Rattle.columns.proofs.clear_l_column.Given as goal
+
+abbrev N : NumberForm
+N = ieee binary64
+
+abbrev pub invariant-loop-i : goal.invariant-loop-i
+invariant-loop-i l = (l.i ≤ l.rows) × Written N (λ j. l_index l.stride j l.column) l.i (λ j. (ieee binary64).zero) l.initial.l l.l

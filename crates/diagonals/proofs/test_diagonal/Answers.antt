@@ -1,0 +1,27 @@
+-- `test_diagonal`: one diagonal a turn.
+use mathlib.Core.Path.{sym, ◌∙◌}
+use Prim.Native.Nat.{◌-◌, ◌<◌}
+use native.Mathlib.Omega.{arith}
+use lib.Ieee.{binary64}
+use borrow.Author.Tests.{not-true, not-false}
+use Rattle.numbers.specs.NumberForm.{NumberForm, ieee}
+use Rattle.diagonals.proofs.Search.{zero_found, non_finite_found, sound_found, none_searched}
+use Rattle.diagonals.proofs.test_diagonal.Goals as goal
+
+abbrev N : NumberForm
+N = ieee binary64
+
+pub loop-i-init : goal.loop-i-init
+loop-i-init c = (omega arith, none_searched N c.args.stride c.args.u.now)
+
+pub returns-then-value : goal.returns-then-value
+returns-then-value c =
+    let h : c.loop-i.i < c.args.n = omega arith in zero_found N c.args.stride c.args.n c.loop-i.i c.u_index.result c.args.u.now c.u_index.ensures.0 c.loop-i.invariant.1 h c.if-value.true
+
+pub returns-then-not-is_finite : goal.returns-then-not-is_finite
+returns-then-not-is_finite c =
+    let h : c.loop-i.i < c.args.n = omega arith in non_finite_found N c.args.stride c.args.n c.loop-i.i c.u_index.result c.args.u.now c.u_index.ensures.0 c.loop-i.invariant.1 h c.if-value.false (sym c.is_finite.ensures ∙ c.if-not-is_finite.true)
+
+pub loop-i-preserved : goal.loop-i-preserved
+loop-i-preserved c =
+    (omega arith, sound_found N c.args.stride c.args.n c.loop-i.i c.u_index.result c.args.u.now c.u_index.ensures.0 c.loop-i.invariant.1 c.if-value.false (sym c.is_finite.ensures ∙ c.if-not-is_finite.false))

@@ -1,0 +1,46 @@
+-- `forward_row`: where the guard fails nothing changes, and otherwise the pair step is made and applied.
+use Prim.Native.Nat.{◌-◌}
+use native.Mathlib.Omega.{arith}
+use lib.Ieee.{binary64}
+use lib.ListN.{length, length-set}
+use Rattle.numbers.specs.NumberForm.{NumberForm, ieee}
+use Rattle.machine.specs.Forward.{forward_transform}
+use Rattle.ranges.proofs.RowParts.{part_fits}
+use Rattle.buffers.proofs.Buffers.{performed_none, performed_as}
+use Rattle.forward_row.proofs.RowEliminated.{forward_transformed, forward_acts_lem, forward_passes, forward_acts_counted, forward_passes_counted}
+use Rattle.forward_row.proofs.forward_row.Goals as goal
+
+abbrev N : NumberForm
+N = ieee binary64
+
+pub transform_slices-requires : goal.transform_slices-requires
+transform_slices-requires c =
+    let a = c.args in
+    let d = c.u_index-diagonal in
+    let h = part_fits a.stride a.row a.row (a.columns - a.row) d.result (omega arith) (omega arith) d.ensures.0 (length a.u.now) (omega arith) (omega arith) in
+    simp length-set (omega arith)
+
+pub returns-then-abs-numerics : goal.returns-then-abs-numerics
+returns-then-abs-numerics c =
+    let transform-slices = c.transform_slices in
+    let a = (tested c).start.args in
+    let p = (tested c).start.pre in
+    let d = (tested c).index.u-index in
+    let s = c.elementary-transform in (
+      performed_as N (forward_transform N a.last a.columns a.row _)
+          (forward_acts_lem N a.numerics.epsilon a.numerics.tiny a.stride a.row a.last a.columns d.result a.l.now a.u.now a.y.now d.ensures.0 c.abs-2.ensures (tested c).value.abs.ensures c.if-abs-numerics.true s.ensures.step)
+          (forward_transformed N a.stride a.n a.columns a.row a.last d.result a.l.now a.u.now a.y.now _ _ _ _
+          (omega arith) (omega arith) (omega arith) (omega arith) (omega arith) d.ensures.0 (omega arith) (omega arith) s.ensures.cleared
+          transform-slices.ensures.0 transform-slices.ensures.1 c.transform_rows.ensures),
+      forward_acts_counted N a.numerics.epsilon a.numerics.tiny a.stride a.row a.last a.columns d.result a.l.now a.u.now a.y.now d.ensures.0 c.abs-2.ensures (tested c).value.abs.ensures c.if-abs-numerics.true,
+    )
+
+pub returns : goal.returns
+returns c =
+    let a = c.args in
+    let d = c.u_index-diagonal in (
+      performed_as N (λ S. S)
+          (forward_passes N a.numerics.epsilon a.numerics.tiny a.stride a.row a.last a.columns d.result a.l.now a.u.now a.y.now d.ensures.0 c.abs-2.ensures c.abs.ensures c.if-abs-numerics.false)
+          (performed_none N),
+      forward_passes_counted N a.numerics.epsilon a.numerics.tiny a.stride a.row a.last a.columns d.result a.l.now a.u.now a.y.now d.ensures.0 c.abs-2.ensures c.abs.ensures c.if-abs-numerics.false,
+    )

@@ -1,0 +1,12 @@
+-- `fill`: one entry a turn.
+use Prim.Native.Nat.{◌-◌, ◌≤◌}
+use lib.Ieee.{binary64}
+use Rattle.numbers.specs.NumberForm.{NumberForm, ieee}
+use Rattle.ranges.specs.Written.{from, Written}
+use Rattle.ranges.proofs.fill.Given as goal
+
+abbrev N : NumberForm
+N = ieee binary64
+
+abbrev pub invariant-loop-k : goal.invariant-loop-k
+invariant-loop-k l = (l.k ≤ l.count) × Written N (from l.at) l.k (λ j. l.value) l.initial.target l.target
