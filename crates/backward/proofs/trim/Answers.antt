@@ -1,0 +1,22 @@
+-- `trim`: an entry a turn.
+use mathlib.Core.Path.{◌∙◌}
+use Prim.Native.Nat.{◌<◌}
+use native.Mathlib.Omega.{arith}
+use lib.Ieee.{binary64}
+use Rattle.numbers.specs.NumberForm.{NumberForm, ieee}
+use Rattle.backward.proofs.Rows.{trim_more, trim_ends, trim_at_start}
+use Rattle.backward.proofs.trim.Goals as goal
+
+abbrev N : NumberForm
+N = ieee binary64
+
+pub loop-selected-preserved : goal.loop-selected-preserved
+loop-selected-preserved c =
+    let h : c.args.first < c.loop-selected.selected = omega arith in (omega arith, (omega arith, trim_more N _ _ _ _ h c.abs.ensures c.if-abs-epsilon.true ∙ c.loop-selected.invariant.1.1))
+
+pub returns-else-abs-epsilon : goal.returns-else-abs-epsilon
+returns-else-abs-epsilon c =
+    let h : c.args.first < c.loop-selected.selected = omega arith in (trim_ends N _ _ _ _ h c.abs.ensures c.if-abs-epsilon.false ∙ c.loop-selected.invariant.1.1, (omega arith, omega arith))
+
+pub returns-after-loop-selected : goal.returns-after-loop-selected
+returns-after-loop-selected c = (trim_at_start N _ _ _ _ (omega arith) ∙ c.loop-selected.invariant.1.1, (omega arith, omega arith))

@@ -1,0 +1,15 @@
+-- `apply_l`: the vector goes behind L, and its product over it.
+use native.Mathlib.Omega.{arith}
+use lib.Ieee.{binary64}
+use Rattle.numbers.specs.NumberForm.{NumberForm, ieee}
+use Rattle.machine.specs.Products.{product}
+use Rattle.machine.proofs.Products.{product_same}
+use Rattle.solves.proofs.InPlace.{product_in_place}
+use Rattle.solves.proofs.apply_l.Goals as goal
+
+abbrev N : NumberForm
+N = ieee binary64
+
+pub returns : goal.returns
+returns c =
+    product_in_place N c.args.n (product N c.args.n) (product_same N c.args.n) c.args.capacity (omega arith) c.copy.ensures c.l_product_from.ensures
