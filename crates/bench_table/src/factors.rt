@@ -6,12 +6,13 @@ use api::{
     RowIndex,
 };
 use refusals::{Refusal, refusal_number};
+use std::io;
 
 // What stands for no index.
 const NO_INDEX: usize = 0xFFFF_FFFF_FFFF_FFFF;
 
 // The state, L and U.
-#[derive(Drop)]
+#[derive(Clone, Copy)]
 struct Factors {
     state: LuMod,
     l: [f64; 6],
@@ -60,60 +61,61 @@ fn make_p() -> Factors {
 }
 
 // A double after another.
-fn next(x: f64) {
-    text(b", ");
-    double(x);
+fn next(rt: &impl Print, x: f64) -> io::Result<()> {
+    text(rt, b", ")?;
+    double(rt, x)
 }
 
-fn pair(first: f64, second: f64) {
-    text(b"(");
-    double(first);
-    next(second);
-    text(b")");
+fn pair(rt: &impl Print, first: f64, second: f64) -> io::Result<()> {
+    text(rt, b"(")?;
+    double(rt, first)?;
+    next(rt, second)?;
+    text(rt, b")")
 }
 
-fn l_entries(l: &[f64; 6]) {
-    text(b": L ");
-    pair(l[0], l[1]);
-    text(b", ");
-    pair(l[2], l[3]);
+fn l_entries(rt: &impl Print, l: &[f64; 6]) -> io::Result<()> {
+    text(rt, b": L ")?;
+    pair(rt, l[0], l[1])?;
+    text(rt, b", ")?;
+    pair(rt, l[2], l[3])
 }
 
-fn u_entries(u: &[f64; 3]) {
-    text(b"; U ");
-    double(u[0]);
-    next(u[1]);
-    next(u[2]);
+fn u_entries(rt: &impl Print, u: &[f64; 3]) -> io::Result<()> {
+    text(rt, b"; U ")?;
+    double(rt, u[0])?;
+    next(rt, u[1])?;
+    next(rt, u[2])
 }
 
 // How many pair steps were made, at the end of a line.
-fn pair_steps(steps: usize) {
-    text(b"; pair steps ");
-    number(steps);
-    text(b"\n");
+fn pair_steps(rt: &impl Print, steps: usize) -> io::Result<()> {
+    text(rt, b"; pair steps ")?;
+    number(rt, steps)?;
+    text(rt, b"\n")
 }
 
 // What a refused call answers: the refusal's number, and its index where it has one.
-fn refusal(found: Refusal) {
-    text(b"refused ");
-    number(refusal_number(found) as usize);
+fn refusal(rt: &impl Print, found: Refusal) -> io::Result<()> {
+    text(rt, b"refused ")?;
+    number(rt, refusal_number(found) as usize)?;
     let answer = Answer::Refused(found);
     let index = named_index(answer, NO_INDEX);
     if index != NO_INDEX {
-        text(b" at ");
-        number(index);
+        text(rt, b" at ")?;
+        number(rt, index)?;
     }
+    Ok(())
 }
 
-pub fn p() {
+pub fn p(rt: &impl Print) -> io::Result<()> {
     let p = make_p();
     let l = p.l;
     let u = p.u;
     let state = p.state;
-    text(b"P");
-    l_entries(&l);
-    u_entries(&u);
-    pair_steps(state.counter);
+    text(rt, b"P")?;
+    l_entries(rt, &l)?;
+    u_entries(rt, &u)?;
+    pair_steps(rt, state.counter)
 }
 
 // Replaces column 0 or row 0, with workspaces of its own, and answers how many pair steps that took.
@@ -130,30 +132,31 @@ fn replace(p: LuMod, is_column: bool, l: &mut [f64; 6], u: &mut [f64; 3], values
 }
 
 // By what column 0 or row 0 is replaced, and L and U then.
-pub fn replaced(is_column: bool, first: f64, second: f64) {
+pub fn replaced(rt: &impl Print, is_column: bool, first: f64, second: f64) -> io::Result<()> {
     let p = make_p();
     let mut l = p.l;
     let mut u = p.u;
     let mut values = [first; 2];
     values[1] = second;
     let steps = replace(p.state, is_column, &mut l, &mut u, &values);
-    pair(first, second);
-    l_entries(&l);
-    u_entries(&u);
-    pair_steps(steps);
+    pair(rt, first, second)?;
+    l_entries(rt, &l)?;
+    u_entries(rt, &u)?;
+    pair_steps(rt, steps)
 }
 
-fn moved(removal: Removal) {
+fn moved(rt: &impl Print, removal: Removal) -> io::Result<()> {
     let row = removal.moved_row;
     match row {
-        MovedRow::Moved(_) => text(b", a row moved"),
-        MovedRow::Nothing => text(b", no row moved"),
+        MovedRow::Moved(_) => text(rt, b", a row moved")?,
+        MovedRow::Nothing => text(rt, b", no row moved")?,
     }
     let column = removal.moved_column;
     match column {
-        MovedColumn::Moved(_) => text(b", a column moved"),
-        MovedColumn::Nothing => text(b", no column moved"),
+        MovedColumn::Moved(_) => text(rt, b", a column moved")?,
+        MovedColumn::Nothing => text(rt, b", no column moved")?,
     }
+    Ok(())
 }
 
 // Removes row 1 and column 1, with workspaces of its own.
@@ -164,21 +167,21 @@ fn remove(p: LuMod, l: &mut [f64; 6], u: &mut [f64; 3]) -> RemoveResult {
     p.remove(l, u, &mut y, &mut z, &mut w, RowIndex(1), ColumnIndex(1))
 }
 
-pub fn removed() {
+pub fn removed(rt: &impl Print) -> io::Result<()> {
     let p = make_p();
     let mut l = p.l;
     let mut u = p.u;
     let result = remove(p.state, &mut l, &mut u);
     let answer = result.answer;
-    text(b"P, remove 1, 1: L ");
-    double(l[0]);
-    text(b", U ");
-    double(u[0]);
+    text(rt, b"P, remove 1, 1: L ")?;
+    double(rt, l[0])?;
+    text(rt, b", U ")?;
+    double(rt, u[0])?;
     match answer {
-        RemoveAnswer::Removed(removal) => moved(removal),
-        RemoveAnswer::Refused(found) => refusal(found),
+        RemoveAnswer::Removed(removal) => moved(rt, removal)?,
+        RemoveAnswer::Refused(found) => refusal(rt, found)?,
     }
-    pair_steps(result.steps);
+    pair_steps(rt, result.steps)
 }
 
 // Solves or transpose solves.
@@ -198,32 +201,32 @@ fn solve(
 }
 
 // The right-hand side, and what P solves or transpose solves it to.
-pub fn solved(transposed: bool, first: f64, second: f64) {
+pub fn solved(rt: &impl Print, transposed: bool, first: f64, second: f64) -> io::Result<()> {
     let p = make_p();
     let mut l = p.l;
     let u = p.u;
     let mut rhs = [first; 2];
     rhs[1] = second;
     solve(p.state, transposed, &mut l, &u, &mut rhs);
-    pair(first, second);
-    text(b": ");
-    pair(rhs[0], rhs[1]);
-    text(b"\n");
+    pair(rt, first, second)?;
+    text(rt, b": ")?;
+    pair(rt, rhs[0], rhs[1])?;
+    text(rt, b"\n")
 }
 
 // Empty, push d -0, solve (5): refused, and (5) stands.
-pub fn refused() {
+pub fn refused(rt: &impl Print) -> io::Result<()> {
     let pushed = push_first(-0.0);
     let mut l = pushed.l;
     let u = pushed.u;
     let mut rhs = [5.0; 1];
     let answer = solve(pushed.state, false, &mut l, &u, &mut rhs);
-    text(b"push d -0, solve (5): ");
+    text(rt, b"push d -0, solve (5): ")?;
     match answer {
-        Answer::Done => text(b"solved"),
-        Answer::Refused(found) => refusal(found),
+        Answer::Done => text(rt, b"solved")?,
+        Answer::Refused(found) => refusal(rt, found)?,
     }
-    text(b", (");
-    double(rhs[0]);
-    text(b")\n");
+    text(rt, b", (")?;
+    double(rt, rhs[0])?;
+    text(rt, b")\n")
 }

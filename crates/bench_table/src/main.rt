@@ -9,83 +9,85 @@ mod print;
 use numerics::pair::elementary;
 use numerics::tolerance::managed;
 use print::{double, number, text};
+use std::io;
 use storage::{RequiredLengths, storage_lengths, u_index};
 
-fn lengths(capacity: usize) {
-    text(b"c = ");
-    number(capacity);
+fn lengths(rt: &impl Print, capacity: usize) -> io::Result<()> {
+    text(rt, b"c = ")?;
+    number(rt, capacity)?;
     let required = storage_lengths(capacity);
     match required {
         RequiredLengths::Lengths(found) => {
-            text(b": L ");
-            number(found.l);
-            text(b", U ");
-            number(found.u);
-            text(b"\n");
+            text(rt, b": L ")?;
+            number(rt, found.l)?;
+            text(rt, b", U ")?;
+            number(rt, found.u)?;
+            text(rt, b"\n")?;
         }
-        RequiredLengths::SizeOverflow => text(b": refused 2\n"),
+        RequiredLengths::SizeOverflow => text(rt, b": refused 2\n")?,
     }
+    Ok(())
 }
 
-fn place(row: usize, column: usize)
+fn place(rt: &impl Print, row: usize, column: usize) -> io::Result<()>
     requires { (row ≤ column) × (column < 3) }
 {
-    text(b"c = 3: U(");
-    number(row);
-    text(b",");
-    number(column);
-    text(b") at ");
-    number(u_index(row, column, 3));
-    text(b"\n");
+    text(rt, b"c = 3: U(")?;
+    number(rt, row)?;
+    text(rt, b",")?;
+    number(rt, column)?;
+    text(rt, b") at ")?;
+    number(rt, u_index(row, column, 3))?;
+    text(rt, b"\n")
 }
 
 // What the pair step makes of two numbers.
-fn transformed(first: f64, second: f64) {
+fn transformed(rt: &impl Print, first: f64, second: f64) -> io::Result<()> {
     let mut x = first;
     let mut y = second;
     let tolerances = managed();
     let transform = elementary(&mut x, &mut y, tolerances.tiny);
-    text(b": m ");
-    double(transform.multiplier);
+    text(rt, b": m ")?;
+    double(rt, transform.multiplier)?;
     if transform.swap {
-        text(b", swap, x ");
+        text(rt, b", swap, x ")?;
     } else {
-        text(b", no swap, x ");
+        text(rt, b", no swap, x ")?;
     }
-    double(x);
-    text(b"\n");
+    double(rt, x)?;
+    text(rt, b"\n")
 }
 
-fn pair(first: f64, second: f64) {
-    text(b"pair ");
-    double(first);
-    text(b", ");
-    double(second);
-    transformed(first, second);
+fn pair(rt: &impl Print, first: f64, second: f64) -> io::Result<()> {
+    text(rt, b"pair ")?;
+    double(rt, first)?;
+    text(rt, b", ")?;
+    double(rt, second)?;
+    transformed(rt, first, second)
 }
 
-fn main() {
-    lengths(0);
-    lengths(1);
-    lengths(4);
-    lengths(4294967295);
-    lengths(4294967296);
-    place(1, 1);
-    place(1, 2);
-    place(2, 2);
-    pair(4.0, 2.0);
-    pair(1.0, -2.0);
-    pair(3.0, -3.0);
-    pair(0.0 / 0.0, 0.0);
-    factors::p();
-    text(b"P, solve ");
-    factors::solved(false, 8.0, 5.0);
-    text(b"P, transpose solve ");
-    factors::solved(true, 6.0, 7.0);
-    text(b"P, replace column 0 by ");
-    factors::replaced(true, 1.0, 8.0);
-    text(b"P, replace row 0 by ");
-    factors::replaced(false, 1.0, 1.0);
-    factors::removed();
-    factors::refused();
+fn main(rt: HostRuntime) -> io::Result<()> {
+    lengths(&rt, 0)?;
+    lengths(&rt, 1)?;
+    lengths(&rt, 4)?;
+    lengths(&rt, 4294967295)?;
+    lengths(&rt, 4294967296)?;
+    place(&rt, 1, 1)?;
+    place(&rt, 1, 2)?;
+    place(&rt, 2, 2)?;
+    pair(&rt, 4.0, 2.0)?;
+    pair(&rt, 1.0, -2.0)?;
+    pair(&rt, 3.0, -3.0)?;
+    pair(&rt, 0.0 / 0.0, 0.0)?;
+    factors::p(&rt)?;
+    text(&rt, b"P, solve ")?;
+    factors::solved(&rt, false, 8.0, 5.0)?;
+    text(&rt, b"P, transpose solve ")?;
+    factors::solved(&rt, true, 6.0, 7.0)?;
+    text(&rt, b"P, replace column 0 by ")?;
+    factors::replaced(&rt, true, 1.0, 8.0)?;
+    text(&rt, b"P, replace row 0 by ")?;
+    factors::replaced(&rt, false, 1.0, 1.0)?;
+    factors::removed(&rt)?;
+    factors::refused(&rt)
 }

@@ -13,7 +13,7 @@ fn unused_start(list: usize) -> u64 {
 }
 
 // Storage for L and U, and the three workspaces.
-#[derive(Drop)]
+#[derive(Clone, Copy)]
 pub struct Buffers {
     pub l: [f64; 256],
     pub u: [f64; 256],

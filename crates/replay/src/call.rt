@@ -26,7 +26,7 @@ pub struct Call {
 }
 
 // What a call answered, and the buffers as it left them.
-#[derive(Drop)]
+#[derive(Clone, Copy)]
 pub struct Called {
     pub answer: Answered,
     pub buffers: Buffers,

@@ -1,5 +1,6 @@
 // Counting calls, answers and differences, and the line at the end.
 use crate::print::{number, size, text};
+use std::io;
 
 // How many calls there were, how many pair steps and differences, and how many answers of each number up to 23.
 #[derive(Clone, Copy)]
@@ -26,47 +27,55 @@ pub fn count(before: Counts, number: usize, steps: usize) -> Counts {
 }
 
 // Counts a difference, where there is one, and names the first few.
-pub fn note(list: usize, call: usize, differs: bool, what: &[u8], before: Counts) -> Counts {
+pub fn note(
+    rt: &impl Print,
+    list: usize,
+    call: usize,
+    differs: bool,
+    what: &[u8],
+    before: Counts,
+) -> io::Result<Counts> {
     if !differs {
-        return before;
+        return Ok(before);
     }
     let mut counts = before;
     counts.differences = more(counts.differences);
     if counts.differences > 8 {
-        return counts;
+        return Ok(counts);
     }
-    text(b"list ");
-    size(list);
-    text(b", call ");
-    size(call);
-    text(what);
-    counts
+    text(rt, b"list ")?;
+    size(rt, list)?;
+    text(rt, b", call ")?;
+    size(rt, call)?;
+    text(rt, what)?;
+    Ok(counts)
 }
 
 // How often each refusal from 1 to 10 was given.
-fn refusals(counts: Counts) {
+fn refusals(rt: &impl Print, counts: Counts) -> io::Result<()> {
     for i in 1..11 {
-        text(b" ");
-        number(counts.answers[i]);
+        text(rt, b" ")?;
+        number(rt, counts.answers[i])?;
     }
+    Ok(())
 }
 
 // The line at the end.
-pub fn summary(lists: usize, counts: Counts) {
-    size(lists);
-    text(b" lists, ");
-    number(counts.calls);
-    text(b" calls, ");
-    number(counts.steps);
-    text(b" pair steps, refusals 1 to 10, 13, 14 and 23:");
-    refusals(counts);
-    text(b" ");
-    number(counts.answers[13]);
-    text(b" ");
-    number(counts.answers[14]);
-    text(b" ");
-    number(counts.answers[23]);
-    text(b", ");
-    number(counts.differences);
-    text(b" differences\n");
+pub fn summary(rt: &impl Print, lists: usize, counts: Counts) -> io::Result<()> {
+    size(rt, lists)?;
+    text(rt, b" lists, ")?;
+    number(rt, counts.calls)?;
+    text(rt, b" calls, ")?;
+    number(rt, counts.steps)?;
+    text(rt, b" pair steps, refusals 1 to 10, 13, 14 and 23:")?;
+    refusals(rt, counts)?;
+    text(rt, b" ")?;
+    number(rt, counts.answers[13])?;
+    text(rt, b" ")?;
+    number(rt, counts.answers[14])?;
+    text(rt, b" ")?;
+    number(rt, counts.answers[23])?;
+    text(rt, b", ")?;
+    number(rt, counts.differences)?;
+    text(rt, b" differences\n")
 }

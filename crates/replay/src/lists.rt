@@ -8,12 +8,13 @@ use crate::print;
 use crate::print::text;
 use crate::records::{Progress, Record, advance, expected_answer, read_record, start_of};
 use crate::sample::{after, check_word, size, word};
+use std::io;
 
 // The first word of a sample: the bytes "LUMOD 1" and a line's end.
 const FIRST_WORD: u64 = 0x0A31_2044_4F4D_554C;
 
 // A list under way: how far it has come, its buffers, and the counts of all calls so far.
-#[derive(Drop)]
+#[derive(Clone, Copy)]
 struct State {
     progress: Progress,
     buffers: Buffers,
@@ -21,14 +22,14 @@ struct State {
 }
 
 // How far the lists have come, and the counts.
-#[derive(Drop)]
+#[derive(Clone, Copy)]
 struct Replayed {
     progress: Progress,
     counts: Counts,
 }
 
 // What a call answered, the buffers as it left them, and whether the first vector is another than is stored.
-#[derive(Drop)]
+#[derive(Clone, Copy)]
 struct Outcome {
     answer: Answered,
     buffers: Buffers,
@@ -74,6 +75,7 @@ fn perform(data: &[u8], record: Record, before: Buffers) -> Outcome {
 
 // Counts the call and its answer, and compares the answer and the factors.
 fn compare(
+    rt: &impl Print,
     data: &[u8],
     list: usize,
     call: usize,
@@ -82,16 +84,17 @@ fn compare(
     next: Progress,
     outcome: Outcome,
     before: Counts,
-) -> Counts {
+) -> io::Result<Counts> {
     let answer = outcome.answer;
     let buffers = outcome.buffers;
     let other_answer = answers_differ(answer, expected);
     let stored = placed(data, next.factors_at, next.dimension, capacity, buffers);
     let other_factors = factors_differ(buffers, stored);
     let counts = count(before, answer.number, answer.steps);
-    let counts = note(list, call, other_answer, b": another answer\n", counts);
-    let counts = note(list, call, other_factors, b": other factors\n", counts);
+    let counts = note(rt, list, call, other_answer, b": another answer\n", counts)?;
+    let counts = note(rt, list, call, other_factors, b": other factors\n", counts)?;
     note(
+        rt,
         list,
         call,
         outcome.other_vector,
@@ -101,18 +104,26 @@ fn compare(
 }
 
 // Reads a record, makes its call and compares.
-fn replay_call(data: &[u8], list: usize, call: usize, capacity: usize, before: State) -> State {
+fn replay_call(
+    rt: &impl Print,
+    data: &[u8],
+    list: usize,
+    call: usize,
+    capacity: usize,
+    before: State,
+) -> io::Result<State> {
     let mut state = before;
     let progress = before.progress;
     let record = read_record(data, progress.at);
     let next = advance(data, capacity, progress, record);
     state.progress = next;
     if next.malformed {
-        return state;
+        return Ok(state);
     }
     let outcome = perform(data, record, before.buffers);
     let buffers = outcome.buffers;
     let counts = compare(
+        rt,
         data,
         list,
         call,
@@ -121,30 +132,43 @@ fn replay_call(data: &[u8], list: usize, call: usize, capacity: usize, before: S
         next,
         outcome,
         before.counts,
-    );
-    State {
+    )?;
+    Ok(State {
         progress: next,
         buffers,
         counts,
-    }
+    })
 }
 
 // The calls of a list, counted from 1, from where its factors end.
-fn replay_calls(data: &[u8], list: usize, calls: usize, capacity: usize, start: State) -> State {
+fn replay_calls(
+    rt: &impl Print,
+    data: &[u8],
+    list: usize,
+    calls: usize,
+    capacity: usize,
+    start: State,
+) -> io::Result<State> {
     let mut state = start;
     let mut i = 0;
     while i < calls {
         i += 1;
-        state = replay_call(data, list, i, capacity, state);
+        state = replay_call(rt, data, list, i, capacity, state)?;
         if state.progress.malformed {
-            return state;
+            return Ok(state);
         }
     }
-    state
+    Ok(state)
 }
 
 // A list: its number of calls, its capacity, its dimension, its factors and its calls.
-fn replay_list(data: &[u8], list: usize, at: usize, counts: Counts) -> State {
+fn replay_list(
+    rt: &impl Print,
+    data: &[u8],
+    list: usize,
+    at: usize,
+    counts: Counts,
+) -> io::Result<State> {
     let calls = size(data, at, 0);
     let capacity = size(data, at, 1);
     let progress = start_of(data, at, capacity);
@@ -161,13 +185,13 @@ fn replay_list(data: &[u8], list: usize, at: usize, counts: Counts) -> State {
         counts,
     };
     if progress.malformed {
-        return start;
+        return Ok(start);
     }
-    replay_calls(data, list, calls, capacity, start)
+    replay_calls(rt, data, list, calls, capacity, start)
 }
 
 // All lists, counted from 1, from the third word on.
-fn replay_lists(data: &[u8], lists: usize) -> Replayed {
+fn replay_lists(rt: &impl Print, data: &[u8], lists: usize) -> io::Result<Replayed> {
     let mut progress = Progress {
         malformed: false,
         at: 16,
@@ -183,20 +207,20 @@ fn replay_lists(data: &[u8], lists: usize) -> Replayed {
     let mut i = 0;
     while i < lists {
         i += 1;
-        let state = replay_list(data, i, progress.at, counts);
+        let state = replay_list(rt, data, i, progress.at, counts)?;
         progress = state.progress;
         counts = state.counts;
         if progress.malformed {
-            return Replayed { progress, counts };
+            return Ok(Replayed { progress, counts });
         }
     }
-    Replayed { progress, counts }
+    Ok(Replayed { progress, counts })
 }
 
-fn report_malformed(at: usize) {
-    text(b"the sample is malformed at byte ");
-    print::size(at);
-    text(b"\n");
+fn report_malformed(rt: &impl Print, at: usize) -> io::Result<()> {
+    text(rt, b"the sample is malformed at byte ")?;
+    print::size(rt, at)?;
+    text(rt, b"\n")
 }
 
 // Whether the last word is the sum of those before it, and the sample ends there.
@@ -208,22 +232,19 @@ fn ends_with_check_word(data: &[u8], at: usize) -> bool {
 }
 
 // Replays the whole sample and says what came of it.
-pub fn replay(data: &[u8]) {
+pub fn replay(rt: &impl Print, data: &[u8]) -> io::Result<()> {
     if word(data, 0) != FIRST_WORD {
-        report_malformed(0);
-        return;
+        return report_malformed(rt, 0);
     }
     let lists = size(data, 8, 0);
-    let replayed = replay_lists(data, lists);
+    let replayed = replay_lists(rt, data, lists)?;
     let progress = replayed.progress;
     if progress.malformed {
-        report_malformed(progress.at);
-        return;
+        return report_malformed(rt, progress.at);
     }
     if !ends_with_check_word(data, progress.at) {
-        report_malformed(progress.at);
-        return;
+        return report_malformed(rt, progress.at);
     }
     let counts = replayed.counts;
-    summary(lists, counts);
+    summary(rt, lists, counts)
 }

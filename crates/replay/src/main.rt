@@ -2,7 +2,7 @@
 // active factors and the right-hand side are compared with the stored ones. README.md has the sample's form.
 #![tactic(auto)]
 
-ghost use Rattle.std.specs.Prelude.{◌≡◌, length};
+ghost use Rattle.std.specs.Prelude.{◌≤◌, length};
 
 mod answer;
 mod buffers;
@@ -15,24 +15,28 @@ mod records;
 mod sample;
 
 use print::text;
+use sample::LARGEST;
+use std::fs;
+use std::io;
+use std::io::Read;
 
-// Room for the longest sample.
-fn zeros() -> [u8; 1048576]
-    ensures { 1048576 ≡ length result }
+// The first bytes of the sample, and no more than the longest has.
+fn longest(bytes: &[u8]) -> usize
+    ensures { result ≤ length bytes.now }
 {
-    [0; 1048576]
+    if bytes.len() > LARGEST {
+        return LARGEST;
+    }
+    bytes.len()
 }
 
-// Opens the sample and hands its bytes on. A sample that is longer than `data` has no end there, and is reported so.
-fn main() {
-    let path = b"sample";
-    let file = os::open_read(path);
-    if file < 0 {
-        text(b"the sample cannot be opened\n");
-        return;
-    }
-    let mut data = zeros();
-    let length = io::read_full(file, &mut data);
-    libc::close(file);
-    lists::replay(&data[..length]);
+// Opens the sample and hands its bytes on. A sample that is longer than the longest has no end there, and is reported so.
+fn main(rt: HostRuntime) -> io::Result<()> {
+    let Ok(mut file) = fs::open(&rt, "sample") else {
+        return text(&rt, b"the sample cannot be opened\n");
+    };
+    let mut data = Vec::new(rt.alloc());
+    file.read_to_end(&mut data)?;
+    let count = longest(&data);
+    lists::replay(&rt, &data[..count])
 }

@@ -1,14 +1,14 @@
 // Writing text and numbers to standard output.
-use libc::STDOUT_FILENO;
+use std::io;
 
-pub fn text(bytes: &[u8]) {
-    io::write_all(STDOUT_FILENO, bytes);
+pub fn text(rt: &impl Print, bytes: &[u8]) -> io::Result<()> {
+    rt.write_all(bytes)
 }
 
-pub fn number(n: u64) {
-    io::print_decimal(STDOUT_FILENO, n);
+pub fn number(rt: &impl Print, n: u64) -> io::Result<()> {
+    rt.print(n)
 }
 
-pub fn size(n: usize) {
-    io::print_decimal(STDOUT_FILENO, n as u64);
+pub fn size(rt: &impl Print, n: usize) -> io::Result<()> {
+    rt.print(n)
 }
