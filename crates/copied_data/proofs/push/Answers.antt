@@ -1,0 +1,16 @@
+-- `push`: the row is copied, the diagonal put behind it, and the update is that of the data.
+use native.Mathlib.Omega.{arith}
+use lib.Ieee.{binary64}
+use Rattle.numbers.specs.Tolerances.{managed_epsilon, managed_tiny}
+use Rattle.numbers.specs.NumberForm.{ieee}
+use Rattle.copied_data.proofs.CopiedData.{push_of_copy}
+use Rattle.copied_data.proofs.push.Goals as goal
+
+pub returns : goal.returns
+returns c =
+    let a = c.args in
+    let p = c.requires.1.0 in
+    let k = c.copy.ensures.kept.long in
+    let b = c.managed.ensures in
+    push_of_copy (ieee binary64) (managed_epsilon binary64) (managed_tiny binary64) a.n a.stride
+    a.row.now a.column.now a.diagonal c.copy.ensures (omega (arith, p, k)) (rw (b.0, b.1) at c.push.ensures)
