@@ -2,7 +2,7 @@
 // active factors and the right-hand side are compared with the stored ones. README.md has the sample's form.
 #![tactic(auto)]
 
-ghost use Rattle.std.specs.Prelude.{◌≤◌, length};
+ghost use Rattle.std.specs.Prelude.{◌≡◌, ◌≤◌, length, IfOk};
 
 mod answer;
 mod buffers;
@@ -15,28 +15,39 @@ mod records;
 mod sample;
 
 use print::text;
-use sample::LARGEST;
 use std::fs;
+use std::fs::File;
 use std::io;
 use std::io::Read;
 
-// The first bytes of the sample, and no more than the longest has.
-fn longest(bytes: &[u8]) -> usize
-    ensures { result ≤ length bytes.now }
+// Room for the longest sample.
+fn zeros() -> [u8; 1048576]
+    ensures { 1048576 ≡ length result }
 {
-    if bytes.len() > LARGEST {
-        return LARGEST;
-    }
-    bytes.len()
+    [0; 1048576]
 }
 
-// Opens the sample and hands its bytes on. A sample that is longer than the longest has no end there, and is reported so.
+// Reads until `data` is full or the file ends, and says how many bytes that were.
+fn read_full(file: &mut File, data: &mut [u8]) -> io::Result<usize>
+    ensures { IfOk result (λ n. n ≤ length data.old) }
+{
+    let mut count = 0;
+    for _turn in 0..data.len() {
+        let read = file.read(&mut data[count..])?;
+        if read == 0 {
+            break;
+        }
+        count += read;
+    }
+    Ok(count)
+}
+
+// Opens the sample and hands its bytes on. A sample that is longer than `data` has no end there, and is reported so.
 fn main(rt: HostRuntime) -> io::Result<()> {
     let Ok(mut file) = fs::open(&rt, "sample") else {
         return text(&rt, b"the sample cannot be opened\n");
     };
-    let mut data = Vec::new(rt.alloc());
-    file.read_to_end(&mut data)?;
-    let count = longest(&data);
+    let mut data = zeros();
+    let count = read_full(&mut file, &mut data)?;
     lists::replay(&rt, &data[..count])
 }
