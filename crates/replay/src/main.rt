@@ -32,7 +32,7 @@ fn read_full(file: &mut File, data: &mut [u8]) -> io::Result<usize>
     ensures { IfOk result (λ n. n ≤ length data.old) }
 {
     let mut count = 0;
-    for _turn in 0..data.len() {
+    for turn in 0..data.len() {
         let read = file.read(&mut data[count..])?;
         if read == 0 {
             break;
