@@ -1,5 +1,5 @@
 -- The four updates of the plain machine. Each stage before Forward or Backward has a name of its own.
-use Rattle.std.specs.Prelude.{cond, ◌&&◌, List, [], ℕ, zero, suc, ◌-◌, leb, ltb, eqb}
+use Rattle.std.specs.Prelude.{cond, ◌&&◌, List, [], ℕ, suc, ◌-◌, leb, ltb, eqb}
 use Rattle.numbers.specs.NumberForm.{NumberForm}
 use Rattle.machine.specs.Tables.{Table, Work, put}
 use Rattle.machine.specs.Products.{entry, unset, product}

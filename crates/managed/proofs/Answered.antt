@@ -1,5 +1,5 @@
 -- The number that a call answers is that of its refusal, and 0 where it is not refused.
-use mathlib.Core.Path.{◌≡◌, refl, ap, ◌∙◌}
+use mathlib.Core.Path.{◌≡◌, refl, ap}
 use mathlib.Core.Option.{Option, none, some}
 use native.Mathlib.Omega.{arith}
 use Rattle.numbers.specs.NumberForm.{NumberForm}

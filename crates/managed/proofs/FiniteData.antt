@@ -1,10 +1,10 @@
 -- No NaN goes into a model: 23 against the data, in both directions, and how the places of a push are counted.
 use mathlib.Core.Path.{◌≡◌, refl, sym, ap, ◌∙◌}
-use mathlib.Core.Bool.{true, false, not, cond, true≢false}
+use mathlib.Core.Bool.{false, not, cond, true≢false}
 use mathlib.Core.List.{List, [], ◌∷◌, ◌++◌}
 use mathlib.Core.Logic.{◌≢◌}
 use mathlib.Core.Option.{Option, none, some}
-use Prim.Native.Nat.{ℕ, zero, suc, ◌+◌, ◌≤◌, ◌<◌}
+use Prim.Native.Nat.{ℕ, suc, ◌+◌, ◌≤◌, ◌<◌}
 use native.Mathlib.Omega.{arith}
 use lib.Dec.{T as So, ltb, eqb, eqb→eq}
 use lib.ListN.{length, length-append, get_or, get_or-append}
@@ -20,7 +20,7 @@ use Rattle.machine.proofs.Refusals.{or_else_none, refuse_if_false, equations_hol
 use Rattle.machine.proofs.Numbered.{Numbered, when_numbered, test_numbered, index_numbered}
 use Rattle.machine.proofs.LentData.{finite_at, First, first_found, all_finite}
 use Rattle.managed.specs.Instance.{Instance, lengths_of, view}
-use Rattle.managed.specs.Refusals.{capacity_test, room_test, lends, reached, refusal_at}
+use Rattle.managed.specs.Refusals.{capacity_test, lends, reached, refusal_at}
 use Rattle.managed.specs.Outcome.{Report, Outcome}
 use Rattle.managed.specs.FiniteData.{DataAgree, DataNamed, PushPlaces, FiniteData}
 use Rattle.managed.proofs.Refusals.{storage_passed, capacity_passed, passed}

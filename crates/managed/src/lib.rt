@@ -2,7 +2,6 @@
 // about lists. It stands beside the meaning of api.rs.
 #![tactic(auto)]
 
-
 // The lengths of what an update is lent: L, U and the three workspaces.
 #[derive(Clone, Copy)]
 pub struct LentLengths {

@@ -15,10 +15,9 @@ mod records;
 mod sample;
 
 use print::text;
-use std::fs;
 use std::fs::File;
-use std::io;
 use std::io::Read;
+use std::{fs, io};
 
 // Room for the longest sample.
 fn zeros() -> [u8; 1048576]

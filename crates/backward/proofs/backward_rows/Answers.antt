@@ -24,18 +24,17 @@ overflow_add-steps c =
     omega (arith, k, r)
 
 pub loop-row-preserved : goal.loop-row-preserved
-loop-row-preserved c =
+loop-row-preserved c = (
+  omega arith,
+  (
+    omega arith,
     (
-      omega arith,
-      (
-        omega arith,
-        (
-          performed_as N
-              (λ S. backward_row N c.args.numerics.epsilon c.args.numerics.tiny c.args.selected c.args.columns (c.loop-row.row - 1) (backward_rows N c.args.numerics.epsilon c.args.numerics.tiny c.args.selected c.args.columns (c.args.selected - c.loop-row.row) S))
-              (backward_rows_more N c.args.numerics.epsilon c.args.numerics.tiny c.args.selected c.args.columns c.loop-row.row _ (omega arith) c.loop-row.invariant.1.0)
-              (performed_then N c.loop-row.invariant.1.1.0 c.backward_row-steps.ensures.0 (omega arith)
-              (λ S R. backward_row_same N c.args.numerics.epsilon c.args.numerics.tiny c.args.n c.args.columns (omega arith) c.args.selected (c.loop-row.row - 1) c.loop-row.row (omega arith) (omega arith) (omega arith))),
-          backward_count_more N c.args.numerics.epsilon c.args.numerics.tiny c.args.selected c.args.columns c.args.n c.loop-row.row _ (omega arith) (omega arith) c.loop-row.invariant.1.0 (omega arith) c.loop-row.invariant.1.1.1 c.loop-row.invariant.1.1.0.agree c.backward_row-steps.ensures.1,
-        ),
-      ),
-    )
+      performed_as N
+          (λ S. backward_row N c.args.numerics.epsilon c.args.numerics.tiny c.args.selected c.args.columns (c.loop-row.row - 1) (backward_rows N c.args.numerics.epsilon c.args.numerics.tiny c.args.selected c.args.columns (c.args.selected - c.loop-row.row) S))
+          (backward_rows_more N c.args.numerics.epsilon c.args.numerics.tiny c.args.selected c.args.columns c.loop-row.row _ (omega arith) c.loop-row.invariant.1.0)
+          (performed_then N c.loop-row.invariant.1.1.0 c.backward_row-steps.ensures.0 (omega arith)
+          (λ S R. backward_row_same N c.args.numerics.epsilon c.args.numerics.tiny c.args.n c.args.columns (omega arith) c.args.selected (c.loop-row.row - 1) c.loop-row.row (omega arith) (omega arith) (omega arith))),
+      backward_count_more N c.args.numerics.epsilon c.args.numerics.tiny c.args.selected c.args.columns c.args.n c.loop-row.row _ (omega arith) (omega arith) c.loop-row.invariant.1.0 (omega arith) c.loop-row.invariant.1.1.1 c.loop-row.invariant.1.1.0.agree c.backward_row-steps.ensures.1,
+    ),
+  ),
+)

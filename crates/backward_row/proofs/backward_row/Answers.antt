@@ -28,8 +28,7 @@ returns-then-abs-numerics c =
 pub transform_slices-requires : goal.transform_slices-requires
 transform_slices-requires c =
     let a = c.args in
-    let p = c.requires in
-    (
+    let p = c.requires in (
       simp length-set (omega arith),
       part_fits a.stride a.row a.row (a.columns - a.row) c.u_index-diagonal.result (omega arith) (omega arith) c.u_index-diagonal.ensures.0 (length a.u.now) (omega arith) (omega arith),
     )

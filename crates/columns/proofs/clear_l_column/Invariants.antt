@@ -1,5 +1,5 @@
 -- `clear_l_column`: one entry a turn.
-use Prim.Native.Nat.{◌-◌, ◌≤◌}
+use Prim.Native.Nat.{◌≤◌}
 use lib.Ieee.{binary64}
 use Rattle.numbers.specs.NumberForm.{NumberForm, ieee}
 use Rattle.storage.specs.Places.{l_index}

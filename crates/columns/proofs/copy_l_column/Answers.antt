@@ -1,9 +1,7 @@
 -- `copy_l_column`: one entry a turn.
-use Prim.Native.Nat.{◌-◌}
 use native.Mathlib.Omega.{arith}
 use lib.Ieee.{binary64}
 use Rattle.numbers.specs.NumberForm.{NumberForm, ieee}
-use Rattle.storage.specs.Places.{l_index}
 use Rattle.ranges.proofs.Writing.{stored}
 use Rattle.columns.proofs.ColumnPlaces.{row_unwritten, l_index_column_apart}
 use Rattle.columns.proofs.copy_l_column.Goals as goal

@@ -1,10 +1,8 @@
 -- `write_u_column`: one entry a turn.
 use mathlib.Core.Path.{refl}
-use Prim.Native.Nat.{◌-◌}
 use native.Mathlib.Omega.{arith}
 use lib.Ieee.{binary64}
 use Rattle.numbers.specs.NumberForm.{NumberForm, ieee}
-use Rattle.storage.specs.Places.{u_index}
 use Rattle.ranges.proofs.Writing.{stored}
 use Rattle.columns.proofs.ColumnPlaces.{u_index_column_apart}
 use Rattle.columns.proofs.write_u_column.Goals as goal

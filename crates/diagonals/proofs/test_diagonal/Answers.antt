@@ -1,9 +1,8 @@
 -- `test_diagonal`: one diagonal a turn.
 use mathlib.Core.Path.{sym, ◌∙◌}
-use Prim.Native.Nat.{◌-◌, ◌<◌}
+use Prim.Native.Nat.{◌<◌}
 use native.Mathlib.Omega.{arith}
 use lib.Ieee.{binary64}
-use borrow.Author.Tests.{not-true, not-false}
 use Rattle.numbers.specs.NumberForm.{NumberForm, ieee}
 use Rattle.diagonals.proofs.Search.{zero_found, non_finite_found, sound_found, none_searched}
 use Rattle.diagonals.proofs.test_diagonal.Goals as goal

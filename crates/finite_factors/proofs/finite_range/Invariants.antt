@@ -1,6 +1,6 @@
 -- `finite_range`: one entry a turn.
 use mathlib.Core.Path.{◌≡◌}
-use Prim.Native.Nat.{◌+◌, ◌-◌, ◌≤◌}
+use Prim.Native.Nat.{◌+◌, ◌≤◌}
 use lib.Ieee.{binary64}
 use lib.Ieee.Scale.{finite}
 use Rattle.numbers.specs.NumberForm.{NumberForm, ieee}

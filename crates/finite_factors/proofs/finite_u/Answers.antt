@@ -7,7 +7,6 @@ use native.Mathlib.Omega.{arith}
 use lib.Ieee.{Float, binary64}
 use lib.Ieee.Scale.{finite}
 use lib.ListN.{length}
-use borrow.Author.Tests.{not-true, not-false}
 use Rattle.numbers.specs.NumberForm.{NumberForm, ieee}
 use Rattle.machine.specs.Readiness.{all_below}
 use Rattle.machine.proofs.Readiness.{none_below, one_more_below, false_below}

@@ -1,11 +1,9 @@
 -- `test_values`: the values before place i are finite.
 use mathlib.Core.Path.{sym, ◌∙◌}
-use mathlib.Core.Bool.{true}
-use Prim.Native.Nat.{◌-◌, ◌<◌}
+use Prim.Native.Nat.{◌<◌}
 use native.Mathlib.Omega.{arith}
 use lib.Ieee.{binary64}
 use lib.ListN.{length}
-use borrow.Author.Tests.{not-true}
 use Rattle.numbers.specs.NumberForm.{NumberForm, ieee}
 use Rattle.machine.proofs.LentData.{none_if_finite, first_named}
 use Rattle.lent_data.proofs.test_values.Goals as goal

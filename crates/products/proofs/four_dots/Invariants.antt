@@ -1,5 +1,5 @@
 -- `four_dots`: one term of each sum a turn.
-use Prim.Native.Nat.{◌-◌, ◌≤◌}
+use Prim.Native.Nat.{◌≤◌}
 use lib.Ieee.{binary64}
 use Rattle.numbers.specs.NumberForm.{NumberForm, ieee}
 use Rattle.products.specs.LProducts.{FourDots}

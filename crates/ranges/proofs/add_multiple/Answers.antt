@@ -1,5 +1,4 @@
 -- `add_multiple`: one entry a turn, of which the old value is still there.
-use Prim.Native.Nat.{◌-◌}
 use native.Mathlib.Omega.{arith}
 use lib.Ieee.{binary64}
 use Rattle.numbers.specs.NumberForm.{NumberForm, ieee}

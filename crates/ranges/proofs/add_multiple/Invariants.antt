@@ -1,5 +1,5 @@
 -- `add_multiple`: one entry a turn, of which the old value is still there.
-use Prim.Native.Nat.{◌-◌, ◌≤◌}
+use Prim.Native.Nat.{◌≤◌}
 use lib.Ieee.{binary64}
 use Rattle.numbers.specs.NumberForm.{NumberForm, ieee}
 use Rattle.ranges.specs.Written.{Written}

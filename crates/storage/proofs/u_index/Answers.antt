@@ -2,7 +2,6 @@
 use borrow.Author.Rules.{rules}
 use native.Mathlib.Omega.{arith}
 use mathlib.Core.Path.{◌≡◌, refl}
-use Prim.Native.Nat.{◌-◌}
 use Rattle.storage.specs.Places.{u_index}
 use Rattle.storage.proofs.Places.{u_index_row_0, u_index_within}
 use Rattle.storage.proofs.u_index.Goals as goal

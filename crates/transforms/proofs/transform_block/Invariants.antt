@@ -1,5 +1,5 @@
 -- `transform_block`: one pair a turn.
-use Prim.Native.Nat.{◌-◌, ◌≤◌}
+use Prim.Native.Nat.{◌≤◌}
 use lib.Ieee.{binary64}
 use Rattle.numbers.specs.NumberForm.{NumberForm, ieee}
 use Rattle.transforms.specs.RowsTransformed.{RowsTransformed}
