@@ -4,7 +4,7 @@ ghost use Rattle.std.specs.Prelude.{◌≡◌, ◌≤◌, length, take};
 use crate::answer::{
     Answered, adoption_of, answer_of, readiness_of, remove_answer_of, update_answer_of,
 };
-use crate::buffers::Buffers;
+use crate::sample_buffers::Buffers;
 use api::{ColumnIndex, LuMod, RowIndex};
 
 // A call's function, the lengths of the buffers that it lends, its dimension and capacity, and its data besides the two vectors.

@@ -1,5 +1,5 @@
 // Comparing bit for bit, with all NaNs alike.
-use crate::buffers::Buffers;
+use crate::sample_buffers::Buffers;
 
 fn same(x: f64, y: f64) -> bool {
     if x != x {

@@ -1,6 +1,5 @@
 // The lists of calls, one after the other.
 use crate::answer::{Answered, answers_differ};
-use crate::buffers::{Buffers, placed, unused, vector};
 use crate::call::{SOLVE, SOLVE_TRANSPOSE, lent, make_call};
 use crate::compare::{factors_differ, vectors_differ};
 use crate::counts::{Counts, count, note, summary};
@@ -8,6 +7,7 @@ use crate::print;
 use crate::print::text;
 use crate::records::{Progress, Record, advance, expected_answer, read_record, start_of};
 use crate::sample::{after, check_word, size, word};
+use crate::sample_buffers::{Buffers, placed, unused, vector};
 use std::io;
 
 // The first word of a sample: the bytes "LUMOD 1" and a line's end.

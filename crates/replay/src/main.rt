@@ -5,7 +5,6 @@
 ghost use Rattle.std.specs.Prelude.{◌≡◌, ◌≤◌, length, IfOk};
 
 mod answer;
-mod buffers;
 mod call;
 mod compare;
 mod counts;
@@ -13,6 +12,7 @@ mod lists;
 mod print;
 mod records;
 mod sample;
+mod sample_buffers;
 
 use print::text;
 use std::fs::File;

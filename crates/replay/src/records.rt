@@ -1,8 +1,8 @@
 // Reading the sample's lists and records, and how far a list has come.
 use crate::answer::Answered;
-use crate::buffers::factors_end;
 use crate::call::{Call, FROM_STORAGE, REMOVE, SOLVE_TRANSPOSE};
 use crate::sample::{after, double, length, size, word};
+use crate::sample_buffers::factors_end;
 
 // The largest capacity, for which L's storage has no more than 240 entries.
 const LARGEST_CAPACITY: usize = 15;
