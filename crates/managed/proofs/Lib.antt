@@ -12,3 +12,4 @@ pub mod Satisfiable
 pub mod Demands
 pub mod WhichBuffer
 pub mod FiniteData
+pub mod WholeTable

@@ -1,13 +1,14 @@
 -- Document 01's bench table of the definitions, whole, as one finite check: its rows on storage, on pairs and on calls, with the computed lines beside them.
-use Rattle.numbers.specs.PairStep.{PairTable, pair_table}
-use Rattle.machine.specs.BenchTable.{CallTable, call_table, TrapTable, trap_table}
-use Rattle.machine.specs.Counts.{CountTable, count_table}
-use Rattle.machine.specs.Counter.{CounterTable, counter_table}
+-- That they hold is `bench_table` of proofs/WholeTable.antt.
+use Rattle.numbers.specs.PairStep.{PairTable}
+use Rattle.machine.specs.BenchTable.{CallTable, TrapTable}
+use Rattle.machine.specs.Counts.{CountTable}
+use Rattle.machine.specs.Counter.{CounterTable}
 use Rattle.machine.specs.Machine as machine
-use Rattle.machine.specs.Solves.{FirstDiagonal, first_diagonal}
-use Rattle.storage.specs.Places.{PlaceTable, place_table}
-use Rattle.storage.specs.Lengths.{LengthsTable, lengths_table}
-use Rattle.managed.specs.Refusals.{RefusalOrder, refusal_order}
+use Rattle.machine.specs.Solves.{FirstDiagonal}
+use Rattle.storage.specs.Places.{PlaceTable}
+use Rattle.storage.specs.Lengths.{LengthsTable}
+use Rattle.managed.specs.Refusals.{RefusalOrder}
 
 pub record BenchTable : Type 0 where
   pub places : PlaceTable
@@ -20,17 +21,3 @@ pub record BenchTable : Type 0 where
   pub diagonals : FirstDiagonal
   pub machine_refusals : machine.RefusalOrder
   pub refusals : RefusalOrder
-
-pub bench_table : BenchTable
-bench_table = record {
-  places = place_table;
-  lengths = lengths_table;
-  pairs = pair_table;
-  calls = call_table;
-  traps = trap_table;
-  counts = count_table;
-  counter = counter_table;
-  diagonals = first_diagonal;
-  machine_refusals = machine.refusal_order;
-  refusals = refusal_order;
-}
