@@ -37,7 +37,8 @@ pub fn backward_row(
     y[row] = 0.0;
     let mut pivot = v[selected];
     let mut value = v[row];
-    if abs(value) <= numerics.epsilon * abs(pivot) {
+    let skips = abs(value) <= numerics.epsilon * abs(pivot);
+    if skips {
         return 0;
     }
     let transform = elementary(&mut pivot, &mut value, numerics.tiny);

@@ -35,7 +35,8 @@ pub fn forward_row(
     let diagonal = u_index(row, row, stride);
     let mut pivot = u[diagonal];
     let mut value = y[row];
-    if abs(value) > numerics.epsilon * abs(pivot) {
+    let acts = abs(value) > numerics.epsilon * abs(pivot);
+    if acts {
         let transform = elementary(&mut pivot, &mut value, numerics.tiny);
         u[diagonal] = pivot;
         y[row] = value;

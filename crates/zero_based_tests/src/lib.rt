@@ -6,6 +6,9 @@ ghost use Rattle.zero_based_tests.specs.Refusals.{index_outside, passed_over, up
 
 use host_numbers::outside;
 
+// Modes are 1 to this.
+const LAST_MODE: usize = 4;
+
 // Whether a mode is `own` or 4, the modes that use the index, and the index is outside.
 pub fn index_outside(mode: usize, own: usize, index: i32, n: usize) -> bool
     ensures { result ≡ index_outside mode own index n }
@@ -29,7 +32,7 @@ pub fn passed_over(mode: usize, n: usize, krow: i32, kcol: i32) -> bool
     if mode < 1 {
         return true;
     }
-    if mode > 4 {
+    if mode > LAST_MODE {
         return true;
     }
     if index_outside(mode, 3, krow, n) {

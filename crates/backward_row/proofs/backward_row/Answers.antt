@@ -15,14 +15,14 @@ use Rattle.backward_row.proofs.backward_row.Goals as goal
 abbrev N : NumberForm
 N = ieee binary64
 
-pub returns-then-abs-numerics : goal.returns-then-abs-numerics
-returns-then-abs-numerics c =
+pub returns-then-skips : goal.returns-then-skips
+returns-then-skips c =
     let a = c.args in
     let p = c.requires in (
       performed_as N (clear_dense N a.row)
-          (backward_skips_lem N a.numerics.epsilon a.numerics.tiny a.stride a.row a.selected a.columns a.l.now a.u.now a.y.now a.v.now c.abs-2.ensures c.abs.ensures c.if-abs-numerics.true)
+          (backward_skips_lem N a.numerics.epsilon a.numerics.tiny a.stride a.row a.selected a.columns a.l.now a.u.now a.y.now a.v.now c.abs-2.ensures c.abs.ensures c.if-skips.true)
           (performed_from N (omega arith) (dense_cleared N a.stride a.n a.columns a.row a.n _ _ _ _ (omega arith) (omega arith) (omega arith))),
-      backward_skips_counted N a.numerics.epsilon a.numerics.tiny a.stride a.row a.selected a.columns a.l.now a.u.now a.y.now a.v.now c.abs-2.ensures c.abs.ensures c.if-abs-numerics.true,
+      backward_skips_counted N a.numerics.epsilon a.numerics.tiny a.stride a.row a.selected a.columns a.l.now a.u.now a.y.now a.v.now c.abs-2.ensures c.abs.ensures c.if-skips.true,
     )
 
 pub transform_slices-requires : goal.transform_slices-requires
@@ -41,12 +41,12 @@ returns c =
     let d = c.u_index-diagonal in
     let s = c.elementary-transform in (
       performed_as N (λ S. backward_transform N a.selected a.columns a.row _ (clear_dense N a.row S))
-          (backward_acts N a.numerics.epsilon a.numerics.tiny a.stride a.row a.selected a.columns a.l.now a.u.now a.y.now a.v.now c.abs-2.ensures c.abs.ensures c.if-abs-numerics.false s.ensures.step)
+          (backward_acts N a.numerics.epsilon a.numerics.tiny a.stride a.row a.selected a.columns a.l.now a.u.now a.y.now a.v.now c.abs-2.ensures c.abs.ensures c.if-skips.false s.ensures.step)
           (performed_then N (performed_from N (omega arith) (dense_cleared N a.stride a.n a.columns a.row a.n _ _ _ _ (omega arith) (omega arith) (omega arith)))
           (backward_transformed N a.stride a.n a.columns a.row a.selected d.result _ _ _ _ _ _ _ _
           (omega arith) (omega arith) (omega arith) (omega arith) (omega arith) d.ensures.0 (omega arith) s.ensures.cleared
           transform-slices.ensures.0 transform-slices.ensures.1 c.transform_rows.ensures)
           (omega arith)
           (λ S R. backward_transform_same N a.numerics.epsilon a.numerics.tiny a.n a.columns (omega arith) a.selected a.row refl (omega arith) (omega arith))),
-      backward_acts_counted N a.numerics.epsilon a.numerics.tiny a.stride a.row a.selected a.columns a.l.now a.u.now a.y.now a.v.now c.abs-2.ensures c.abs.ensures c.if-abs-numerics.false,
+      backward_acts_counted N a.numerics.epsilon a.numerics.tiny a.stride a.row a.selected a.columns a.l.now a.u.now a.y.now a.v.now c.abs-2.ensures c.abs.ensures c.if-skips.false,
     )

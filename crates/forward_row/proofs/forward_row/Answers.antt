@@ -20,19 +20,19 @@ transform_slices-requires c =
     let h = part_fits a.stride a.row a.row (a.columns - a.row) d.result (omega arith) (omega arith) d.ensures.0 (length a.u.now) (omega arith) (omega arith) in
     simp length-set (omega arith)
 
-pub returns-then-abs-numerics : goal.returns-then-abs-numerics
-returns-then-abs-numerics c =
+pub returns-then-acts : goal.returns-then-acts
+returns-then-acts c =
     let transform-slices = c.transform_slices in
     let a = c.args in
     let p = c.requires in
     let d = c.u_index-diagonal in
     let s = c.elementary-transform in (
       performed_as N (forward_transform N a.last a.columns a.row _)
-          (forward_acts_lem N a.numerics.epsilon a.numerics.tiny a.stride a.row a.last a.columns d.result a.l.now a.u.now a.y.now d.ensures.0 c.abs-2.ensures c.abs.ensures c.if-abs-numerics.true s.ensures.step)
+          (forward_acts_lem N a.numerics.epsilon a.numerics.tiny a.stride a.row a.last a.columns d.result a.l.now a.u.now a.y.now d.ensures.0 c.abs-2.ensures c.abs.ensures c.if-acts.true s.ensures.step)
           (forward_transformed N a.stride a.n a.columns a.row a.last d.result a.l.now a.u.now a.y.now _ _ _ _
           (omega arith) (omega arith) (omega arith) (omega arith) (omega arith) d.ensures.0 (omega arith) (omega arith) s.ensures.cleared
           transform-slices.ensures.0 transform-slices.ensures.1 c.transform_rows.ensures),
-      forward_acts_counted N a.numerics.epsilon a.numerics.tiny a.stride a.row a.last a.columns d.result a.l.now a.u.now a.y.now d.ensures.0 c.abs-2.ensures c.abs.ensures c.if-abs-numerics.true,
+      forward_acts_counted N a.numerics.epsilon a.numerics.tiny a.stride a.row a.last a.columns d.result a.l.now a.u.now a.y.now d.ensures.0 c.abs-2.ensures c.abs.ensures c.if-acts.true,
     )
 
 pub returns : goal.returns
@@ -40,7 +40,7 @@ returns c =
     let a = c.args in
     let d = c.u_index-diagonal in (
       performed_as N (λ S. S)
-          (forward_passes N a.numerics.epsilon a.numerics.tiny a.stride a.row a.last a.columns d.result a.l.now a.u.now a.y.now d.ensures.0 c.abs-2.ensures c.abs.ensures c.if-abs-numerics.false)
+          (forward_passes N a.numerics.epsilon a.numerics.tiny a.stride a.row a.last a.columns d.result a.l.now a.u.now a.y.now d.ensures.0 c.abs-2.ensures c.abs.ensures c.if-acts.false)
           (performed_none N),
-      forward_passes_counted N a.numerics.epsilon a.numerics.tiny a.stride a.row a.last a.columns d.result a.l.now a.u.now a.y.now d.ensures.0 c.abs-2.ensures c.abs.ensures c.if-abs-numerics.false,
+      forward_passes_counted N a.numerics.epsilon a.numerics.tiny a.stride a.row a.last a.columns d.result a.l.now a.u.now a.y.now d.ensures.0 c.abs-2.ensures c.abs.ensures c.if-acts.false,
     )

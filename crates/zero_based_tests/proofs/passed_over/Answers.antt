@@ -22,10 +22,10 @@ pub returns-then-mode-lt1 : goal.returns-then-mode-lt1
 unfolding passed_over
 returns-then-mode-lt1 c = simp (ne_eqb _ _ c.if-n-eq0.false, lt-ltb _ _ c.if-mode-lt1.true)
 
-pub returns-then-mode-gt4 : goal.returns-then-mode-gt4
+pub returns-then-mode-gt-LAST_MODE : goal.returns-then-mode-gt-LAST_MODE
 unfolding passed_over
-returns-then-mode-gt4 c =
-    let above : 4 < c.args.mode = omega (arith, c.if-mode-gt4.true) in simp (ne_eqb _ _ c.if-n-eq0.false, le-ltb _ _ c.if-mode-lt1.false, lt-ltb 4 c.args.mode above)
+returns-then-mode-gt-LAST_MODE c =
+    let above : 4 < c.args.mode = omega (arith, c.if-mode-gt-LAST_MODE.true) in simp (ne_eqb _ _ c.if-n-eq0.false, le-ltb _ _ c.if-mode-lt1.false, lt-ltb 4 c.args.mode above)
 
 pub returns-then-index_outside : goal.returns-then-index_outside
 unfolding passed_over
@@ -35,4 +35,4 @@ returns-then-index_outside c =
 pub returns : goal.returns
 unfolding passed_over
 returns c =
-    let e = sym (c.index_outside.ensures ∙ ap (λ (z : ℤ). index_outside c.args.mode 3 z c.args.n) (to_z-of_z c.ranges.krow)) ∙ c.if-index_outside.false in let most : c.args.mode ≤ 4 = omega (arith, c.if-mode-gt4.false) in let f = c.index_outside-2.ensures ∙ ap (λ (z : ℤ). index_outside c.args.mode 2 z c.args.n) (to_z-of_z c.ranges.kcol) in simp (ne_eqb _ _ c.if-n-eq0.false, le-ltb _ _ c.if-mode-lt1.false, le-ltb 4 c.args.mode most, e, f)
+    let e = sym (c.index_outside.ensures ∙ ap (λ (z : ℤ). index_outside c.args.mode 3 z c.args.n) (to_z-of_z c.ranges.krow)) ∙ c.if-index_outside.false in let most : c.args.mode ≤ 4 = omega (arith, c.if-mode-gt-LAST_MODE.false) in let f = c.index_outside-2.ensures ∙ ap (λ (z : ℤ). index_outside c.args.mode 2 z c.args.n) (to_z-of_z c.ranges.kcol) in simp (ne_eqb _ _ c.if-n-eq0.false, le-ltb _ _ c.if-mode-lt1.false, le-ltb 4 c.args.mode most, e, f)
