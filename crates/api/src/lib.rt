@@ -12,20 +12,19 @@ ghost use Rattle.managed.specs.Instance.{instance, lent_to_solve};
 ghost use Rattle.managed.specs.Refusals.{storage_tests};
 ghost use Rattle.managed.specs.StorageAnswers.{adopted_under, ready_under};
 ghost use Rattle.managed.specs.Demands.{ManagedOutcome};
-ghost use Rattle.refusals.specs.Refusal as tests;
 ghost use Rattle.managed_updates.specs.Attempted as updates;
 ghost use Rattle.readiness.specs.Readiness.{readiness_of};
-ghost use Rattle.api.specs.Answers.{state_of, answer_of, moved_row_of, moved_column_of, update_report, remove_report, solve_report, adoption_of};
+ghost use Rattle.api.specs.Answers.{state_of, moved_row_of, moved_column_of, update_report, remove_report, solve_report, adoption_of};
 
 use counter::added;
 use managed_solves::{solve, solve_transpose};
-use managed_updates::{Update, push, remove, replace_column, replace_row};
-use readiness::{Readiness, ready};
-use refusals::{Refusal, Test, test_storage};
-use storage::{RequiredLengths, storage_lengths};
+use managed_updates::{Made, push, remove, replace_column, replace_row};
+use readiness::ready;
+use refusals::{Refusal, test_storage};
+use storage::{SizeOverflow, StorageLengths, storage_lengths};
 
 // The dimension and the capacity of factors whose storage the caller keeps, and the counter of the pair steps that their updates made.
-#[derive(Clone, Copy)]
+#[derive(Clone, Copy, Debug, PartialEq, Eq)]
 pub struct LuMod {
     pub n: usize,
     pub capacity: usize,
@@ -33,187 +32,90 @@ pub struct LuMod {
 }
 
 // The index of a row of the matrix.
-#[derive(Clone, Copy)]
+#[derive(Clone, Copy, Debug, PartialEq, Eq)]
 pub struct RowIndex(pub usize);
 
 // The index of a column of the matrix.
-#[derive(Clone, Copy)]
+#[derive(Clone, Copy, Debug, PartialEq, Eq)]
 pub struct ColumnIndex(pub usize);
 
-// The row that a remove moved to the place of the removed one, by its old index.
-#[derive(Clone, Copy)]
-pub enum MovedRow {
-    Moved(RowIndex),
-    Nothing,
-}
-
-// The same of columns.
-#[derive(Clone, Copy)]
-pub enum MovedColumn {
-    Moved(ColumnIndex),
-    Nothing,
-}
-
-// What a remove moved.
-#[derive(Clone, Copy)]
+// What a remove moved to the places of the removed row and column: the last row and the last column, by their old indices, each unless it was itself removed.
+#[derive(Clone, Copy, Debug, PartialEq, Eq)]
 pub struct Removal {
-    pub moved_row: MovedRow,
-    pub moved_column: MovedColumn,
-}
-
-// What a call answers, remove apart.
-#[derive(Clone, Copy)]
-pub enum Answer {
-    Done,
-    Refused(Refusal),
-}
-
-// What remove answers.
-#[derive(Clone, Copy)]
-pub enum RemoveAnswer {
-    Removed(Removal),
-    Refused(Refusal),
+    pub moved_row: Option<RowIndex>,
+    pub moved_column: Option<ColumnIndex>,
 }
 
 // What a solve hands back: the state for the next call, and its answer.
-#[derive(Clone, Copy)]
+#[derive(Clone, Copy, Debug, PartialEq, Eq)]
 pub struct CallResult {
     pub state: LuMod,
-    pub answer: Answer,
+    pub answer: Result<(), Refusal>,
 }
 
-// The same of an update, remove apart, with how many pair steps it made: 0 where it was refused.
-#[derive(Clone, Copy)]
-pub struct UpdateResult {
+// The same of an update, with how many pair steps it made: 0 where it was refused. Remove answers what moved, the others nothing more.
+#[derive(Clone, Copy, Debug, PartialEq, Eq)]
+pub struct UpdateResult<T> {
     pub state: LuMod,
-    pub answer: Answer,
+    pub answer: Result<T, Refusal>,
     pub steps: usize,
-}
-
-// The same of remove.
-#[derive(Clone, Copy)]
-pub struct RemoveResult {
-    pub state: LuMod,
-    pub answer: RemoveAnswer,
-    pub steps: usize,
-}
-
-// What adopting storage answers.
-#[derive(Clone, Copy)]
-pub enum Adoption {
-    Adopted(LuMod),
-    Refused(Refusal),
-}
-
-// What a solve hands back.
-fn call_result(state: LuMod, test: Test) -> CallResult
-    ensures { (result.state ≡ state) × (answer_of result.answer ≡ tests.answer_of test) }
-{
-    match test {
-        Test::Passed => CallResult {
-            state,
-            answer: Answer::Done,
-        },
-        Test::Refused(refusal) => CallResult {
-            state,
-            answer: Answer::Refused(refusal),
-        },
-    }
 }
 
 // The state after an update: its dimension and the counter with its pair steps, or where it was refused the state as it was.
-fn state_after(state: LuMod, update: Update) -> LuMod
+fn state_after(state: LuMod, update: Result<Made, Refusal>) -> LuMod
     ensures { state_of result ≡ updates.state_after update state.n state.capacity state.counter }
 {
     match update {
-        Update::Made(made) => LuMod {
+        Ok(made) => LuMod {
             n: made.dimension,
             capacity: state.capacity,
             counter: added(state.counter, made.steps),
         },
-        Update::Refused(_) => state,
+        Err(_) => state,
     }
 }
 
 // How many pair steps an update made: 0 where it was refused.
-fn steps_of(update: Update) -> usize
+fn steps_of(update: Result<Made, Refusal>) -> usize
     ensures { result ≡ updates.steps_of update }
 {
-    match update {
-        Update::Made(made) => made.steps,
-        Update::Refused(_) => 0,
-    }
+    update.map_or(0, |made| made.steps)
 }
 
 // What an update hands back, remove apart.
-fn update_result(state: LuMod, update: Update) -> UpdateResult
+fn update_result(state: LuMod, update: Result<Made, Refusal>) -> UpdateResult<()>
     ensures { (state_of result.state ≡ updates.state_after update state.n state.capacity state.counter) × (update_report result ≡ updates.report_of update) }
 {
-    let state = state_after(state, update);
-    let steps = steps_of(update);
-    match update {
-        Update::Made(_) => UpdateResult {
-            state,
-            answer: Answer::Done,
-            steps,
-        },
-        Update::Refused(refusal) => UpdateResult {
-            state,
-            answer: Answer::Refused(refusal),
-            steps,
-        },
+    UpdateResult {
+        state: state_after(state, update),
+        answer: update.map(|_| ()),
+        steps: steps_of(update),
     }
 }
 
-// The last row moves, where it is not itself the one that is removed.
-fn moved_row(row: usize, last: usize) -> MovedRow
-    ensures { moved_row_of result ≡ updates.moved_from last row }
-{
-    if row == last {
-        return MovedRow::Nothing;
-    }
-    MovedRow::Moved(RowIndex(last))
-}
-
-// The same of columns.
-fn moved_column(column: usize, last: usize) -> MovedColumn
-    ensures { moved_column_of result ≡ updates.moved_from last column }
-{
-    if column == last {
-        return MovedColumn::Nothing;
-    }
-    MovedColumn::Moved(ColumnIndex(last))
-}
-
-// What moved when a row and a column were removed.
+// What moved when a row and a column were removed: the last of each, where it is not itself the one that is removed.
 fn what_moved(row: usize, column: usize, last: usize) -> Removal
     ensures { (moved_row_of result.moved_row ≡ updates.moved_from last row) × (moved_column_of result.moved_column ≡ updates.moved_from last column) }
 {
-    let moved_row = moved_row(row, last);
-    let moved_column = moved_column(column, last);
     Removal {
-        moved_row,
-        moved_column,
+        moved_row: (row != last).then_some(RowIndex(last)),
+        moved_column: (column != last).then_some(ColumnIndex(last)),
     }
 }
 
 // What remove hands back.
-fn remove_result(state: LuMod, update: Update, row: usize, column: usize) -> RemoveResult
+fn remove_result(
+    state: LuMod,
+    update: Result<Made, Refusal>,
+    row: usize,
+    column: usize,
+) -> UpdateResult<Removal>
     ensures { (state_of result.state ≡ updates.state_after update state.n state.capacity state.counter) × (remove_report result ≡ updates.remove_report_of row column update) }
 {
-    let state = state_after(state, update);
-    let steps = steps_of(update);
-    match update {
-        Update::Made(made) => RemoveResult {
-            state,
-            answer: RemoveAnswer::Removed(what_moved(row, column, made.dimension)),
-            steps,
-        },
-        Update::Refused(refusal) => RemoveResult {
-            state,
-            answer: RemoveAnswer::Refused(refusal),
-            steps,
-        },
+    UpdateResult {
+        state: state_after(state, update),
+        answer: update.map(|made| what_moved(row, column, made.dimension)),
+        steps: steps_of(update),
     }
 }
 
@@ -223,7 +125,7 @@ fn remove_result(state: LuMod, update: Update, row: usize, column: usize) -> Rem
 // the row and the column that remove drops. It hands back how many pair steps it made, added to the counter up to 999,999; a larger counter counts as that.
 impl LuMod {
     // The lengths of L and U that a capacity needs. SizeOverflow where capacity + 1 or L's length exceeds usize.
-    pub fn storage_lengths(capacity: usize) -> RequiredLengths
+    pub fn storage_lengths(capacity: usize) -> Result<StorageLengths, SizeOverflow>
         ensures { lengths.answer_of result ≡ lengths.required_lengths capacity }
     {
         storage_lengths(capacity)
@@ -231,18 +133,20 @@ impl LuMod {
 
     // Adopts storage at a dimension and a capacity; nothing of it is read or written. InvalidDimension where the dimension exceeds the capacity,
     // SizeOverflow where the lengths for it exceed usize, InsufficientL where L is shorter, InsufficientU where U is.
-    pub fn from_storage(dimension: usize, capacity: usize, l: &[f64], u: &[f64]) -> Adoption
+    pub fn from_storage(
+        dimension: usize,
+        capacity: usize,
+        l: &[f64],
+        u: &[f64],
+    ) -> Result<LuMod, Refusal>
         ensures { adoption_of result ≡ adopted_under (storage_tests dimension capacity (length l.now) (length u.now)) dimension capacity }
     {
-        let test = test_storage(dimension, capacity, l.len(), u.len());
-        match test {
-            Test::Passed => Adoption::Adopted(LuMod {
-                n: dimension,
-                capacity,
-                counter: 0,
-            }),
-            Test::Refused(refusal) => Adoption::Refused(refusal),
-        }
+        test_storage(dimension, capacity, l.len(), u.len())?;
+        Ok(LuMod {
+            n: dimension,
+            capacity,
+            counter: 0,
+        })
     }
 
     // The number of active rows and columns.
@@ -260,7 +164,7 @@ impl LuMod {
     }
 
     // Whether no active diagonal of U is zero, infinite or NaN. Nothing is written.
-    pub fn ready(self, l: &[f64], u: &[f64]) -> Readiness
+    pub fn ready(self, l: &[f64], u: &[f64]) -> Result<bool, Refusal>
         ensures { readiness_of result ≡ ready_under (storage_tests self.n self.capacity (length l.now) (length u.now))
             (diagonals (ieee binary64) (view_u (ieee binary64) self.capacity u.now) self.n) }
     {
@@ -280,7 +184,7 @@ impl LuMod {
         row: &[f64],
         column: &[f64],
         diagonal: f64,
-    ) -> UpdateResult
+    ) -> UpdateResult<()>
         ensures { ManagedOutcome binary64 (calls.push row.now column.now diagonal)
             (instance (state_of self) l.old u.old y.old z.old w.old)
             (instance (state_of result.state) l.new u.new y.new z.new w.new) (update_report result) }
@@ -300,7 +204,7 @@ impl LuMod {
         w: &mut [f64],
         row: RowIndex,
         values: &[f64],
-    ) -> UpdateResult
+    ) -> UpdateResult<()>
         ensures { ManagedOutcome binary64 (calls.replace_row row.0 values.now)
             (instance (state_of self) l.old u.old y.old z.old w.old)
             (instance (state_of result.state) l.new u.new y.new z.new w.new) (update_report result) }
@@ -320,7 +224,7 @@ impl LuMod {
         w: &mut [f64],
         column: ColumnIndex,
         values: &[f64],
-    ) -> UpdateResult
+    ) -> UpdateResult<()>
         ensures { ManagedOutcome binary64 (calls.replace_column column.0 values.now)
             (instance (state_of self) l.old u.old y.old z.old w.old)
             (instance (state_of result.state) l.new u.new y.new z.new w.new) (update_report result) }
@@ -341,7 +245,7 @@ impl LuMod {
         w: &mut [f64],
         row: RowIndex,
         column: ColumnIndex,
-    ) -> RemoveResult
+    ) -> UpdateResult<Removal>
         ensures { ManagedOutcome binary64 (calls.remove row.0 column.0)
             (instance (state_of self) l.old u.old y.old z.old w.old)
             (instance (state_of result.state) l.new u.new y.new z.new w.new) (remove_report result) }
@@ -356,8 +260,11 @@ impl LuMod {
         ensures { ManagedOutcome binary64 (calls.solve rhs.old) (lent_to_solve (state_of self) l.old u.now)
             (lent_to_solve (state_of result.state) l.new u.now) (solve_report result rhs.new) }
     {
-        let test = solve(self.n, self.capacity, l, u, rhs);
-        call_result(self, test)
+        let answer = solve(self.n, self.capacity, l, u, rhs);
+        CallResult {
+            state: self,
+            answer,
+        }
     }
 
     // The same with the matrix transposed.
@@ -365,7 +272,10 @@ impl LuMod {
         ensures { ManagedOutcome binary64 (calls.solve_transpose rhs.old) (lent_to_solve (state_of self) l.old u.now)
             (lent_to_solve (state_of result.state) l.new u.now) (solve_report result rhs.new) }
     {
-        let test = solve_transpose(self.n, self.capacity, l, u, rhs);
-        call_result(self, test)
+        let answer = solve_transpose(self.n, self.capacity, l, u, rhs);
+        CallResult {
+            state: self,
+            answer,
+        }
     }
 }

@@ -8,9 +8,10 @@ ghost use Rattle.machine.specs.Products.{entry};
 ghost use Rattle.machine.specs.Backward.{backward_rows};
 ghost use Rattle.machine.specs.Backward;
 ghost use Rattle.machine.specs.Counts.{backward_rows_count, backward_count};
-ghost use Rattle.buffers.specs.Performed.{work_of, Room, Performed};
+ghost use Rattle.factors.specs.StepPerformed.{work_with, StepPerformed};
 
 use backward_row::backward_row;
+use factors::Factors;
 use numerics::real::abs;
 use numerics::tolerance::Numerics;
 use ranges::copy;
@@ -21,38 +22,35 @@ pub fn trim(first: usize, last: usize, v: &[f64], epsilon: f64) -> usize
     requires { (first ≤ last) × (last < length v.now) }
     ensures { (result ≡ Backward.trim (ieee binary64) epsilon first last (entry (ieee binary64) v.now)) × ((first ≤ result) × (result ≤ last)) }
 {
-    let mut selected = last;
-    while selected > first && abs(v[selected]) <= epsilon {
-        selected -= 1;
+    for selected in (first + 1..=last).rev() {
+        let negligible = abs(v[selected]) <= epsilon;
+        if !negligible {
+            return selected;
+        }
     }
-    selected
+    first
 }
 
 // The rows from selected - 1 down to `first`. It answers how many pair steps it made.
 pub fn backward_rows(
     first: usize,
     selected: usize,
-    n: usize,
     columns: usize,
-    stride: usize,
-    l: &mut [f64],
-    u: &mut [f64],
+    factors: &mut Factors<'_>,
     y: &mut [f64],
     v: &mut [f64],
     numerics: Numerics,
 ) -> usize
-    requires { Room (ieee binary64) stride n l.old u.old × ((columns ≤ length y.old) × ((n ≤ length v.old) × ((first ≤ selected) × ((selected < n)
-        × ((selected ≤ columns) × (columns ≤ n)))))) }
-    ensures { Performed (ieee binary64) stride n first columns n (backward_rows (ieee binary64) numerics.epsilon numerics.tiny selected columns (selected - first))
-        l.old u.old y.old v.old l.new u.new y.new v.new
-        × (result ≡ backward_rows_count (ieee binary64) numerics.epsilon numerics.tiny selected columns (selected - first)
-        (work_of (ieee binary64) stride l.old u.old y.old v.old)) }
+    requires { (columns ≤ length y.old) × ((factors.old.n ≤ length v.old) × ((first ≤ selected) × ((selected < factors.old.n)
+        × ((selected ≤ columns) × (columns ≤ factors.old.n))))) }
+    ensures performed { StepPerformed first columns factors.old.n (backward_rows (ieee binary64) numerics.epsilon numerics.tiny selected columns (selected - first))
+        factors.old y.old v.old factors.new y.new v.new }
+    ensures counted { result ≡ backward_rows_count (ieee binary64) numerics.epsilon numerics.tiny selected columns (selected - first)
+        (work_with factors.old y.old v.old) }
 {
     let mut steps = 0;
-    let mut row = selected;
-    while row > first {
-        row -= 1;
-        steps += backward_row(row, selected, n, columns, stride, l, u, y, v, numerics);
+    for row in (first..selected).rev() {
+        steps += backward_row(row, selected, columns, factors, y, v, numerics);
     }
     steps
 }
@@ -62,23 +60,20 @@ pub fn backward_rows(
 pub fn backward(
     first: usize,
     selected: usize,
-    n: usize,
     columns: usize,
-    stride: usize,
-    l: &mut [f64],
-    u: &mut [f64],
+    factors: &mut Factors<'_>,
     y: &mut [f64],
     v: &mut [f64],
     numerics: Numerics,
 ) -> usize
-    requires { Room (ieee binary64) stride n l.old u.old × ((columns ≤ length y.old) × ((n ≤ length v.old) × ((first ≤ selected) × ((selected < n)
-        × ((selected ≤ columns) × (columns ≤ n)))))) }
-    ensures { Performed (ieee binary64) stride n first columns n (Backward.backward (ieee binary64) numerics.epsilon numerics.tiny first selected columns)
-        l.old u.old y.old v.old l.new u.new y.new v.new
-        × (result ≡ backward_count (ieee binary64) numerics.epsilon numerics.tiny first selected columns
-        (work_of (ieee binary64) stride l.old u.old y.old v.old)) }
+    requires { (columns ≤ length y.old) × ((factors.old.n ≤ length v.old) × ((first ≤ selected) × ((selected < factors.old.n)
+        × ((selected ≤ columns) × (columns ≤ factors.old.n))))) }
+    ensures performed { StepPerformed first columns factors.old.n (Backward.backward (ieee binary64) numerics.epsilon numerics.tiny first selected columns)
+        factors.old y.old v.old factors.new y.new v.new }
+    ensures counted { result ≡ backward_count (ieee binary64) numerics.epsilon numerics.tiny first selected columns (work_with factors.old y.old v.old) }
 {
-    let diagonal = u_index(selected, selected, stride);
+    let diagonal = u_index(selected, selected, factors.stride);
+    let u = &mut *factors.u;
     copy(y, selected, u, diagonal, columns - selected);
-    backward_rows(first, selected, n, columns, stride, l, u, y, v, numerics)
+    backward_rows(first, selected, columns, factors, y, v, numerics)
 }

@@ -1,4 +1,4 @@
-// One row of Backward on slices.
+// One row of Backward on factors in lent storage.
 #![tactic(auto)]
 
 ghost use Rattle.std.specs.Prelude.{◌≡◌, ◌≤◌, ◌<◌, length};
@@ -6,8 +6,9 @@ ghost use Rattle.std.specs.Float.{binary64};
 ghost use Rattle.numbers.specs.NumberForm.{ieee};
 ghost use Rattle.machine.specs.Backward.{backward_row};
 ghost use Rattle.machine.specs.Counts.{backward_row_count};
-ghost use Rattle.buffers.specs.Performed.{work_of, Room, Performed};
+ghost use Rattle.factors.specs.StepPerformed.{work_with, StepPerformed};
 
+use factors::Factors;
 use numerics::pair::elementary;
 use numerics::real::abs;
 use numerics::tolerance::Numerics;
@@ -19,21 +20,20 @@ use transforms::{transform_rows, transform_slices};
 pub fn backward_row(
     row: usize,
     selected: usize,
-    n: usize,
     columns: usize,
-    stride: usize,
-    l: &mut [f64],
-    u: &mut [f64],
+    factors: &mut Factors<'_>,
     y: &mut [f64],
     v: &mut [f64],
     numerics: Numerics,
 ) -> usize
-    requires { Room (ieee binary64) stride n l.old u.old × ((columns ≤ length y.old) × ((n ≤ length v.old) × ((row < selected) × ((selected < n)
-        × ((selected ≤ columns) × (columns ≤ n)))))) }
-    ensures { Performed (ieee binary64) stride n row columns n (backward_row (ieee binary64) numerics.epsilon numerics.tiny selected columns row)
-        l.old u.old y.old v.old l.new u.new y.new v.new
-        × (result ≡ backward_row_count (ieee binary64) numerics.epsilon selected row (work_of (ieee binary64) stride l.old u.old y.old v.old)) }
+    requires { (columns ≤ length y.old) × ((factors.old.n ≤ length v.old) × ((row < selected) × ((selected < factors.old.n)
+        × ((selected ≤ columns) × (columns ≤ factors.old.n))))) }
+    ensures performed { StepPerformed row columns factors.old.n (backward_row (ieee binary64) numerics.epsilon numerics.tiny selected columns row)
+        factors.old y.old v.old factors.new y.new v.new }
+    ensures counted { result ≡ backward_row_count (ieee binary64) numerics.epsilon selected row (work_with factors.old y.old v.old) }
 {
+    let n = factors.n;
+    let stride = factors.stride;
     y[row] = 0.0;
     let mut pivot = v[selected];
     let mut value = v[row];
@@ -45,7 +45,7 @@ pub fn backward_row(
     v[selected] = pivot;
     v[row] = value;
     let diagonal = u_index(row, row, stride);
-    transform_slices(y, row, u, diagonal, columns - row, transform);
-    transform_rows(l, selected * stride, row * stride, n, transform);
+    transform_slices(y, row, factors.u, diagonal, columns - row, transform);
+    transform_rows(factors.l, selected * stride, row * stride, n, transform);
     1
 }

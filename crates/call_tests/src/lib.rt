@@ -17,7 +17,7 @@ ghost use Rattle.refusals.specs.Refusal.{refusal_of, test_of};
 
 use lent_data::{test_push_data, test_values};
 use managed::LentLengths;
-use refusals::{Refusal, Test, test_diagonals, test_lent, test_storage};
+use refusals::{Refusal, test_diagonals, test_lent, test_storage};
 
 // Push: 4, 7, 23, 8.
 pub fn test_push(
@@ -27,31 +27,22 @@ pub fn test_push(
     row: &[f64],
     column: &[f64],
     diagonal: f64,
-) -> Test
+) -> Result<(), Refusal>
     ensures { test_of result ≡ update_tests n capacity lent (capacity_test n capacity) (push_tests n (length row.now) (length column.now))
         (data_test (ieee binary64) (calls.push row.now column.now diagonal)) (n + 1) }
 {
-    let test = test_lent(n, capacity, lent);
-    let Test::Passed = test else {
-        return test;
-    };
+    test_lent(n, capacity, lent)?;
     if n == capacity {
-        return Test::Refused(Refusal::CapacityExceeded);
+        return Err(Refusal::CapacityExceeded);
     }
-    if row.len() != n {
-        return Test::Refused(Refusal::LengthMismatch);
+    if row.len() != n || column.len() != n {
+        return Err(Refusal::LengthMismatch);
     }
-    if column.len() != n {
-        return Test::Refused(Refusal::LengthMismatch);
-    }
-    let data = test_push_data(row, column, diagonal);
-    let Test::Passed = data else {
-        return data;
-    };
+    test_push_data(row, column, diagonal)?;
     if lent.y <= n {
-        return Test::Refused(Refusal::InsufficientWorkspace);
+        return Err(Refusal::InsufficientWorkspace);
     }
-    Test::Passed
+    Ok(())
 }
 
 // Replace row or column: 5 or 6, which is `outside`, then 7, 23, 8.
@@ -62,61 +53,56 @@ pub fn test_replacement(
     index: usize,
     outside: Refusal,
     values: &[f64],
-) -> Test
+) -> Result<(), Refusal>
     ensures { test_of result ≡ update_tests n capacity lent none (replacement_tests n index (refusal_of outside) (length values.now))
         (first_non_finite (ieee binary64) 0 values.now) n }
 {
-    let test = test_lent(n, capacity, lent);
-    let Test::Passed = test else {
-        return test;
-    };
+    test_lent(n, capacity, lent)?;
     if index >= n {
-        return Test::Refused(outside);
+        return Err(outside);
     }
     if values.len() != n {
-        return Test::Refused(Refusal::LengthMismatch);
+        return Err(Refusal::LengthMismatch);
     }
-    let finite = test_values(values, 0);
-    let Test::Passed = finite else {
-        return finite;
-    };
+    test_values(values, 0)?;
     if lent.y < n {
-        return Test::Refused(Refusal::InsufficientWorkspace);
+        return Err(Refusal::InsufficientWorkspace);
     }
-    Test::Passed
+    Ok(())
 }
 
 // Remove: 5, 6, 8.
-pub fn test_remove(n: usize, capacity: usize, lent: LentLengths, row: usize, column: usize) -> Test
+pub fn test_remove(
+    n: usize,
+    capacity: usize,
+    lent: LentLengths,
+    row: usize,
+    column: usize,
+) -> Result<(), Refusal>
     ensures { test_of result ≡ update_tests n capacity lent none (remove_tests n row column) none n }
 {
-    let test = test_lent(n, capacity, lent);
-    let Test::Passed = test else {
-        return test;
-    };
+    test_lent(n, capacity, lent)?;
     if row >= n {
-        return Test::Refused(Refusal::RowOutOfBounds);
+        return Err(Refusal::RowOutOfBounds);
     }
     if column >= n {
-        return Test::Refused(Refusal::ColumnOutOfBounds);
+        return Err(Refusal::ColumnOutOfBounds);
     }
     if n > lent.y {
-        return Test::Refused(Refusal::InsufficientWorkspace);
+        return Err(Refusal::InsufficientWorkspace);
     }
-    Test::Passed
+    Ok(())
 }
 
 // Both solves, with the lengths of L and of the right-hand side: 1, 2, 3, 13, 7, then the diagonal upward.
-pub fn test_solve(n: usize, capacity: usize, l: usize, u: &[f64], rhs: usize) -> Test
+#[tactic(auto, using(managed::proofs::Refusals::storage_passed))]
+pub fn test_solve(n: usize, capacity: usize, l: usize, u: &[f64], rhs: usize) -> Result<(), Refusal>
     ensures { test_of result ≡ solve_tests n capacity l (length u.now)
         (rhs_test n rhs or_else diagonals (ieee binary64) (view_u (ieee binary64) capacity u.now) n) }
 {
-    let test = test_storage(n, capacity, l, u.len());
-    let Test::Passed = test else {
-        return test;
-    };
+    test_storage(n, capacity, l, u.len())?;
     if rhs != n {
-        return Test::Refused(Refusal::LengthMismatch);
+        return Err(Refusal::LengthMismatch);
     }
     test_diagonals(n, capacity, u)
 }

@@ -69,7 +69,7 @@ pub fn dot_u_column(u: &[f64], column: usize, stride: usize, values: &[f64]) -> 
 {
     let mut value = 0.0;
     for i in 0..column {
-        value = value + u[u_index(i, column, stride)] * values[i];
+        value += u[u_index(i, column, stride)] * values[i];
     }
     value
 }

@@ -57,6 +57,12 @@ module _ (N : NumberForm) (E T : N.Value) (n c : ℕ) {l u y y₁ z w l' u' y' z
         steps = own.steps ∙ pushed_count_same N E T n _ _ _ _ (λ i j a b. refl) (λ i j a b. refl) (set y₁ n d) row column column d same (λ j k. refl);
       }
 
+  -- the same at the new dimension
+  pub push_of_copy_at : (m : ℕ) → m ≡ n + 1 → (row column : List Value) (d : Value) → Written N (from 0) n (λ k. entry N row (0 + k)) y y₁ → n < length y₁
+      → CarriedOut N E T c (m - 1) m (push (set y₁ n d) column (entry N (set y₁ n d) (m - 1))) l u (set y₁ n d) z w l' u' y' z' w' a
+      → CarriedOut N E T c n m (push row column d) l u y z w l' u' y' z' w' a
+  push_of_copy_at m e row column d copied h update = rw e (push_of_copy row column d copied h (rw e at update))
+
   -- the values of a row
   pub row_of_copy : (row : ℕ) (values : List Value) → Written N (from 0) n (λ k. entry N values (0 + k)) y y₁ → row < n
       → CarriedOut N E T c n n (replace_row row y₁) l u y₁ z w l' u' y' z' w' a → CarriedOut N E T c n n (replace_row row values) l u y z w l' u' y' z' w' a

@@ -1,60 +1,59 @@
 // The two updates of the managed interface whose data are copied to a workspace, with its tolerances.
 #![tactic(auto)]
 
-ghost use Rattle.std.specs.Prelude.{◌+◌, ◌≤◌, ◌<◌, length};
+ghost use Rattle.std.specs.Prelude.{◌-◌, ◌≤◌, ◌<◌, length};
 ghost use Rattle.std.specs.Float.{binary64};
 ghost use Rattle.numbers.specs.NumberForm.{ieee};
 ghost use Rattle.numbers.specs.Tolerances.{managed_epsilon, managed_tiny};
 ghost use Rattle.machine.specs.Calls as calls;
 ghost use Rattle.storage.specs.Updated.{CarriedOut};
-ghost use Rattle.buffers.specs.Performed.{Room};
+ghost use Rattle.factors.specs.SameStorage.{SameStorage};
 
+use factors::Factors;
 use numerics::tolerance::managed;
 use ranges::copy;
 
-// Appends a row and a column to the matrix of dimension n. The row goes to y with the diagonal behind it.
+// Appends a row and a column to the matrix; the factors' dimension is the new one. The row goes to y with the diagonal behind it.
 // It answers how many pair steps it made.
 pub fn push(
-    n: usize,
-    stride: usize,
-    l: &mut [f64],
-    u: &mut [f64],
+    factors: &mut Factors<'_>,
     y: &mut [f64],
     w: &mut [f64],
     row: &[f64],
     column: &[f64],
     diagonal: f64,
 ) -> usize
-    requires { Room (ieee binary64) stride (n + 1) l.old u.old × ((n + 1 ≤ length y.old) × ((n ≤ length w.old) × ((n ≤ length row.now)
-        × (n ≤ length column.now)))) }
-    ensures { CarriedOut (ieee binary64) (managed_epsilon binary64) (managed_tiny binary64) stride n (n + 1)
+    requires { (factors.old.n ≤ length y.old) × ((factors.old.n - 1 ≤ length w.old) × ((factors.old.n - 1 ≤ length row.now)
+        × ((factors.old.n - 1 ≤ length column.now) × (0 < factors.old.n)))) }
+    ensures carried_out { CarriedOut (ieee binary64) (managed_epsilon binary64) (managed_tiny binary64) factors.old.stride (factors.old.n - 1) factors.old.n
         (calls.push row.now column.now diagonal)
-        l.old u.old y.old column.now w.old
-        l.new u.new y.new column.now w.new result }
+        factors.old.l.now factors.old.u.now y.old column.now w.old
+        factors.new.l.now factors.new.u.now y.new column.now w.new result }
+    ensures same_storage { SameStorage factors.old factors.new }
 {
+    let n = factors.n - 1;
     copy(y, 0, row, 0, n);
     y[n] = diagonal;
-    update_push::push(n + 1, stride, l, u, y, column, w, managed())
+    update_push::push(factors, y, column, w, managed())
 }
 
 // Replaces a row of the matrix. The values go to y. It answers how many pair steps it made.
 pub fn replace_row(
     row: usize,
-    n: usize,
-    stride: usize,
-    l: &mut [f64],
-    u: &mut [f64],
+    factors: &mut Factors<'_>,
     y: &mut [f64],
     z: &mut [f64],
     w: &mut [f64],
     values: &[f64],
 ) -> usize
-    requires { Room (ieee binary64) stride n l.old u.old × ((n ≤ length y.old) × ((n ≤ length z.old) × ((n ≤ length w.old) × ((n ≤ length values.now)
-        × (row < n))))) }
-    ensures { CarriedOut (ieee binary64) (managed_epsilon binary64) (managed_tiny binary64) stride n n (calls.replace_row row values.now)
-        l.old u.old y.old z.old w.old
-        l.new u.new y.new z.new w.new result }
+    requires { (factors.old.n ≤ length y.old) × ((factors.old.n ≤ length z.old) × ((factors.old.n ≤ length w.old) × ((factors.old.n ≤ length values.now)
+        × (row < factors.old.n)))) }
+    ensures carried_out { CarriedOut (ieee binary64) (managed_epsilon binary64) (managed_tiny binary64) factors.old.stride factors.old.n factors.old.n (calls.replace_row row values.now)
+        factors.old.l.now factors.old.u.now y.old z.old w.old
+        factors.new.l.now factors.new.u.now y.new z.new w.new result }
+    ensures same_storage { SameStorage factors.old factors.new }
 {
+    let n = factors.n;
     copy(y, 0, values, 0, n);
-    update_row::replace_row(row, n, stride, l, u, y, z, w, managed())
+    update_row::replace_row(row, factors, y, z, w, managed())
 }

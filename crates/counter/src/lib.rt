@@ -10,19 +10,12 @@ const MOST: usize = 999999;
 pub fn counted(counter: usize) -> usize
     ensures { result ≡ capped counter }
 {
-    if counter > MOST {
-        return MOST;
-    }
-    counter
+    counter.min(MOST)
 }
 
 // The counter after so many more pair steps. No sum wraps.
 pub fn added(counter: usize, steps: usize) -> usize
     ensures { result ≡ capped (counter + steps) }
 {
-    let before = counted(counter);
-    if steps > MOST - before {
-        return MOST;
-    }
-    before + steps
+    counted(counter.saturating_add(steps))
 }

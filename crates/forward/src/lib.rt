@@ -6,8 +6,9 @@ ghost use Rattle.std.specs.Float.{binary64};
 ghost use Rattle.numbers.specs.NumberForm.{ieee};
 ghost use Rattle.machine.specs.Forward;
 ghost use Rattle.machine.specs.Counts.{forward_count};
-ghost use Rattle.buffers.specs.Performed.{work_of, Room, Performed};
+ghost use Rattle.factors.specs.StepPerformed.{work_with, StepPerformed};
 
+use factors::Factors;
 use forward_row::forward_row;
 use numerics::tolerance::Numerics;
 use ranges::copy;
@@ -18,25 +19,20 @@ use storage::u_index;
 pub fn forward(
     first: usize,
     last: usize,
-    n: usize,
     columns: usize,
-    stride: usize,
-    l: &mut [f64],
-    u: &mut [f64],
+    factors: &mut Factors<'_>,
     y: &mut [f64],
     numerics: Numerics,
 ) -> usize
-    requires { Room (ieee binary64) stride n l.old u.old × ((columns ≤ length y.old) × ((first ≤ last) × ((last < n) × ((last ≤ columns) × (columns ≤ n))))) }
-    ensures { Performed (ieee binary64) stride n 0 columns 0 (Forward.forward (ieee binary64) numerics.epsilon numerics.tiny first last columns)
-        l.old u.old y.old [] l.new u.new y.new []
-        × (result ≡ forward_count (ieee binary64) numerics.epsilon numerics.tiny first last columns
-        (work_of (ieee binary64) stride l.old u.old y.old [])) }
+    requires { (columns ≤ length y.old) × ((first ≤ last) × ((last < factors.old.n) × ((last ≤ columns) × (columns ≤ factors.old.n)))) }
+    ensures performed { StepPerformed 0 columns 0 (Forward.forward (ieee binary64) numerics.epsilon numerics.tiny first last columns) factors.old y.old [] factors.new y.new [] }
+    ensures counted { result ≡ forward_count (ieee binary64) numerics.epsilon numerics.tiny first last columns (work_with factors.old y.old []) }
 {
     let mut steps = 0;
     for row in first..last {
-        steps += forward_row(row, last, n, columns, stride, l, u, y, numerics);
+        steps += forward_row(row, last, columns, factors, y, numerics);
     }
-    let diagonal = u_index(last, last, stride);
-    copy(u, diagonal, y, last, columns - last);
+    let diagonal = u_index(last, last, factors.stride);
+    copy(factors.u, diagonal, y, last, columns - last);
     steps
 }

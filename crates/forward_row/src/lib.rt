@@ -1,4 +1,4 @@
-// One row of Forward on slices.
+// One row of Forward on factors in lent storage.
 #![tactic(auto)]
 
 ghost use Rattle.std.specs.Prelude.{◌≡◌, [], ◌≤◌, ◌<◌, length};
@@ -6,8 +6,9 @@ ghost use Rattle.std.specs.Float.{binary64};
 ghost use Rattle.numbers.specs.NumberForm.{ieee};
 ghost use Rattle.machine.specs.Forward.{forward_row};
 ghost use Rattle.machine.specs.Counts.{forward_row_count};
-ghost use Rattle.buffers.specs.Performed.{work_of, Room, Performed};
+ghost use Rattle.factors.specs.StepPerformed.{work_with, StepPerformed};
 
+use factors::Factors;
 use numerics::pair::elementary;
 use numerics::real::abs;
 use numerics::tolerance::Numerics;
@@ -19,29 +20,34 @@ use transforms::{transform_rows, transform_slices};
 pub fn forward_row(
     row: usize,
     last: usize,
-    n: usize,
     columns: usize,
-    stride: usize,
-    l: &mut [f64],
-    u: &mut [f64],
+    factors: &mut Factors<'_>,
     y: &mut [f64],
     numerics: Numerics,
 ) -> usize
-    requires { Room (ieee binary64) stride n l.old u.old × ((columns ≤ length y.old) × ((row < last) × ((last < n) × ((last ≤ columns) × (columns ≤ n))))) }
-    ensures { Performed (ieee binary64) stride n 0 columns 0 (forward_row (ieee binary64) numerics.epsilon numerics.tiny last columns row)
-        l.old u.old y.old [] l.new u.new y.new []
-        × (result ≡ forward_row_count (ieee binary64) numerics.epsilon row (work_of (ieee binary64) stride l.old u.old y.old [])) }
+    requires { (columns ≤ length y.old) × ((row < last) × ((last < factors.old.n) × ((last ≤ columns) × (columns ≤ factors.old.n)))) }
+    ensures performed { StepPerformed 0 columns 0 (forward_row (ieee binary64) numerics.epsilon numerics.tiny last columns row) factors.old y.old [] factors.new y.new [] }
+    ensures counted { result ≡ forward_row_count (ieee binary64) numerics.epsilon row (work_with factors.old y.old []) }
 {
+    let n = factors.n;
+    let stride = factors.stride;
     let diagonal = u_index(row, row, stride);
-    let mut pivot = u[diagonal];
+    let mut pivot = factors.u[diagonal];
     let mut value = y[row];
     let acts = abs(value) > numerics.epsilon * abs(pivot);
     if acts {
         let transform = elementary(&mut pivot, &mut value, numerics.tiny);
-        u[diagonal] = pivot;
+        factors.u[diagonal] = pivot;
         y[row] = value;
-        transform_slices(u, diagonal + 1, y, row + 1, columns - (row + 1), transform);
-        transform_rows(l, row * stride, last * stride, n, transform);
+        transform_slices(
+            factors.u,
+            diagonal + 1,
+            y,
+            row + 1,
+            columns - (row + 1),
+            transform,
+        );
+        transform_rows(factors.l, row * stride, last * stride, n, transform);
         return 1;
     }
     0

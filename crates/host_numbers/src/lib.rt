@@ -2,36 +2,25 @@
 #![tactic(auto)]
 
 ghost use Rattle.std.specs.Prelude.{◌≡◌, ◌^◌, ◌<◌};
-ghost use Rattle.host_numbers.specs.Numbers.{size_of, stride_of};
-ghost use Rattle.host_numbers.specs.Numbers;
+ghost use Rattle.host_numbers.specs.Numbers.{size_of, stride_of, index_of};
 
 // A number as a size, 0 where it is negative.
 pub fn size(number: i32) -> usize
     ensures { (result ≡ size_of number) × (result < 2 ^ 31) }
 {
-    if number < 0 {
-        return 0;
-    }
-    number as usize
+    usize::try_from(number).unwrap_or(0)
 }
 
 // The larger of maxmod and 1.
 pub fn stride(maxmod: i32) -> usize
     ensures { (result ≡ stride_of maxmod) × (result < 2 ^ 31) }
 {
-    let found = size(maxmod);
-    if found < 1 {
-        return 1;
-    }
-    found
+    size(maxmod).max(1)
 }
 
-// Whether an index is not 0 to n - 1.
-pub fn outside(index: i32, n: usize) -> bool
-    ensures { result ≡ Numbers.outside index n }
+// An index as a size, none where it is not 0 to n - 1.
+pub fn index_below(index: i32, n: usize) -> Option<usize>
+    ensures { result ≡ index_of index n }
 {
-    if index < 0 {
-        return true;
-    }
-    size(index) >= n
+    usize::try_from(index).ok().filter(|k| *k < n)
 }

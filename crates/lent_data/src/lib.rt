@@ -9,36 +9,30 @@ ghost use Rattle.machine.specs.LentData.{first_non_finite, data_test};
 ghost use Rattle.refusals.specs.Refusal.{test_of};
 
 use numerics::real::is_finite;
-use refusals::{Refusal, Test};
+use refusals::Refusal;
 
 // Values whose places are counted from `first` on.
-pub fn test_values(values: &[f64], first: usize) -> Test
+#[tactic(auto, using(machine::proofs::LentData::none_if_finite))]
+pub fn test_values(values: &[f64], first: usize) -> Result<(), Refusal>
     requires { first + length values.now < 2 ^ 64 }
     ensures { test_of result ≡ first_non_finite (ieee binary64) first values.now }
 {
-    for i in 0..values.len() {
-        if !is_finite(values[i]) {
-            return Test::Refused(Refusal::NonFiniteData(first + i));
-        }
+    match values.iter().position(|value| !is_finite(*value)) {
+        Some(i) => Err(Refusal::NonFiniteData(first + i)),
+        None => Ok(()),
     }
-    Test::Passed
 }
 
 // Those of a push: the row's, then the column's, then the diagonal's.
-pub fn test_push_data(row: &[f64], column: &[f64], diagonal: f64) -> Test
+#[tactic(auto, using(machine::proofs::LentData::push_in_parts), unfolding(machine::specs::LentData::first_non_finite))]
+pub fn test_push_data(row: &[f64], column: &[f64], diagonal: f64) -> Result<(), Refusal>
     requires { length row.now + length column.now < 2 ^ 64 }
     ensures { test_of result ≡ data_test (ieee binary64) (calls.push row.now column.now diagonal) }
 {
-    let test = test_values(row, 0);
-    let Test::Passed = test else {
-        return test;
-    };
-    let test = test_values(column, row.len());
-    let Test::Passed = test else {
-        return test;
-    };
+    test_values(row, 0)?;
+    test_values(column, row.len())?;
     if !is_finite(diagonal) {
-        return Test::Refused(Refusal::NonFiniteData(row.len() + column.len()));
+        return Err(Refusal::NonFiniteData(row.len() + column.len()));
     }
-    Test::Passed
+    Ok(())
 }

@@ -1,5 +1,5 @@
 -- The outcome of a zero-based call, whole: the number that it returns and what it leaves in every buffer that it may write.
-use Rattle.std.specs.Prelude.{◌≡◌, cond, List, ℕ, eqb, ℤ, length}
+use Rattle.std.specs.Prelude.{◌≡◌, cond, List, ℕ, eqb, ℤ, length, Result, Ok, Err}
 use Rattle.std.proofs.Math.Option.{Option, none, some}
 use Rattle.numbers.specs.NumberForm.{NumberForm}
 use Rattle.machine.specs.Tables.{Vector}
@@ -11,6 +11,15 @@ use Rattle.ranges.specs.Written.{Written}
 use Rattle.zero_based_updates.specs.UpdateDone.{UpdateDone}
 use Rattle.host_numbers.specs.Numbers.{size_of, stride_of}
 use Rattle.zero_based_tests.specs.Refusals.{update_refusal, product_refusal, solve_refusal}
+use Rattle.zero_based_tests.specs.Update.{update_of}
+use Rattle.lumod_c.specs.declared.Refusal.{Refusal}
+use Rattle.lumod_c.specs.declared.Refusal.TheVariants.{PassedOver, LacksRoom}
+
+-- what a call returns: 0 where it was performed, 11 where it was passed over, 12 where a buffer is too short
+abbrev pub outcome_number : Result (Unit {0}) Refusal → ℕ
+outcome_number (Ok performed) = 0
+outcome_number (Err PassedOver) = 11
+outcome_number (Err LacksRoom) = 12
 
 -- A call that a test refuses returns the refusal's number and leaves all untouched; any other returns 0 and is performed.
 pub record Outcome (refusal : Option Answer) (Untouched Performed : Type 0) (answer : ℕ) : Type 0 where
@@ -59,5 +68,5 @@ module _ (N : NumberForm) (E T : N.Value) where
       → List Value → List Value → List Value → List Value → List Value → ℕ → Type 0
   UpdateOutcome mode maxmod n krow kcol l u y z w l' u' y' z' w' answer =
       Outcome (update_refusal mode maxmod n krow kcol (length l) (length u) (length y) (length z) (length w)) (Untouched N l u y z w l' u' y' z' w')
-      (UpdateDone N E T (size_of mode) (stride_of maxmod) (size_of n) (size_of krow) (size_of kcol) l u y z w l' u' y' z' w')
+      (UpdateDone N E T (update_of (size_of mode) (size_of krow) (size_of kcol)) (stride_of maxmod) (size_of n) l u y z w l' u' y' z' w')
       answer

@@ -1,16 +1,36 @@
 // The zero-based calls for a C host: numbers are i32, a slice is a pointer and a length. include/lumod.h is their header.
 #![tactic(auto)]
 
+ghost use Rattle.std.specs.Prelude.{◌≡◌};
 ghost use Rattle.std.specs.Float.{binary64};
 ghost use Rattle.numbers.specs.NumberForm.{ieee};
 ghost use Rattle.numbers.specs.Tolerances.{zero_based_epsilon, zero_based_tiny};
-ghost use Rattle.lumod_c.specs.Outcome.{ProductOutcome, SolveOutcome, UpdateOutcome};
+ghost use Rattle.lumod_c.specs.Outcome.{ProductOutcome, SolveOutcome, UpdateOutcome, outcome_number};
 
+use factors::Factors;
 use host_numbers::{size, stride};
 use products::{l_product, l_product_transposed};
 use substitutions::{back_substitute, forward_substitute};
-use zero_based_tests::{passed_over, product_lacks_room, solve_lacks_room, update_lacks_room};
+use zero_based_tests::{product_lacks_room, solve_lacks_room, update_lacks_room, update_named};
 use zero_based_updates::perform;
+
+// Why a call is refused: n, the mode or an index is out of range, or a buffer is too short.
+#[derive(Clone, Copy)]
+enum Refusal {
+    PassedOver,
+    LacksRoom,
+}
+
+// What a call returns to the host.
+fn number(outcome: Result<(), Refusal>) -> u32
+    ensures { result ≡ outcome_number outcome }
+{
+    match outcome {
+        Ok(()) => 0,
+        Err(Refusal::PassedOver) => 11,
+        Err(Refusal::LacksRoom) => 12,
+    }
+}
 
 // Updates the factors. Mode 1 appends a row and a column (n is the new dimension; row and diagonal in y, column in z), 2 replaces column kcol by z, 3 replaces
 // row krow by y, 4 removes row krow and column kcol. 11 where n, mode or an index is out of range, 12 where a buffer is too short; then nothing is written.
@@ -30,11 +50,44 @@ pub extern "C" fn LUmod(
     ensures { UpdateOutcome (ieee binary64) zero_based_epsilon zero_based_tiny mode maxmod n krow kcol
         l.old u.old y.old z.old w.old l.new u.new y.new z.new w.new result }
 {
-    let operation = size(mode);
+    number(update(mode, maxmod, n, krow, kcol, l, u, y, z, w))
+}
+
+// Writes the L product of y to the first n of z: plain in mode 1, transposed in any other.
+#[unsafe(no_mangle)]
+pub extern "C" fn Lprod(mode: i32, maxmod: i32, n: i32, l: &[f64], y: &[f64], z: &mut [f64]) -> u32
+    ensures { ProductOutcome (ieee binary64) mode maxmod n l.now y.now z.old z.new result }
+{
+    number(product(mode, maxmod, n, l, y, z))
+}
+
+// Solves with U on the first n of y: plain in mode 1, transposed in any other. No diagonal is tested.
+#[unsafe(no_mangle)]
+pub extern "C" fn Usolve(mode: i32, maxmod: i32, n: i32, u: &[f64], y: &mut [f64]) -> u32
+    ensures { SolveOutcome (ieee binary64) mode maxmod n u.now y.old y.new result }
+{
+    number(solve(mode, maxmod, n, u, y))
+}
+
+// What LUmod does.
+#[tactic(auto, unfolding(zero_based_tests::specs::Refusals::update_lacks_room))]
+fn update(
+    mode: i32,
+    maxmod: i32,
+    n: i32,
+    krow: i32,
+    kcol: i32,
+    l: &mut [f64],
+    u: &mut [f64],
+    y: &mut [f64],
+    z: &mut [f64],
+    w: &mut [f64],
+) -> Result<(), Refusal>
+    ensures { UpdateOutcome (ieee binary64) zero_based_epsilon zero_based_tiny mode maxmod n krow kcol
+        l.old u.old y.old z.old w.old l.new u.new y.new z.new w.new (outcome_number result) }
+{
     let dimension = size(n);
-    if passed_over(operation, dimension, krow, kcol) {
-        return 11;
-    }
+    let update = update_named(mode, dimension, krow, kcol).ok_or(Refusal::PassedOver)?;
     let capacity = stride(maxmod);
     if update_lacks_room(
         dimension,
@@ -45,52 +98,63 @@ pub extern "C" fn LUmod(
         z.len(),
         w.len(),
     ) {
-        return 12;
+        return Err(Refusal::LacksRoom);
     }
-    let row = size(krow);
-    let column = size(kcol);
-    perform(operation, dimension, capacity, row, column, l, u, y, z, w);
-    0
+    let mut factors = Factors {
+        n: dimension,
+        stride: capacity,
+        l,
+        u,
+    };
+    perform(update, &mut factors, y, z, w);
+    Ok(())
 }
 
-// Writes the L product of y to the first n of z: plain in mode 1, transposed in any other.
-#[unsafe(no_mangle)]
-pub extern "C" fn Lprod(mode: i32, maxmod: i32, n: i32, l: &[f64], y: &[f64], z: &mut [f64]) -> u32
-    ensures { ProductOutcome (ieee binary64) mode maxmod n l.now y.now z.old z.new result }
+// What Lprod does. A mode is a number of the C interface: 1 is plain, any other transposed.
+#[tactic(auto, unfolding(zero_based_tests::specs::Refusals::product_lacks_room, crate::specs::Outcome::product_of))]
+fn product(
+    mode: i32,
+    maxmod: i32,
+    n: i32,
+    l: &[f64],
+    y: &[f64],
+    z: &mut [f64],
+) -> Result<(), Refusal>
+    ensures { ProductOutcome (ieee binary64) mode maxmod n l.now y.now z.old z.new (outcome_number result) }
 {
     let dimension = size(n);
     if dimension == 0 {
-        return 11;
+        return Err(Refusal::PassedOver);
     }
     let capacity = stride(maxmod);
     if product_lacks_room(dimension, capacity, l.len(), y.len(), z.len()) {
-        return 12;
+        return Err(Refusal::LacksRoom);
     }
-    if size(mode) == 1 {
+    if mode == 1 {
         l_product(dimension, capacity, l, y, z);
     } else {
         l_product_transposed(dimension, capacity, l, y, z);
     }
-    0
+    Ok(())
 }
 
-// Solves with U on the first n of y: plain in mode 1, transposed in any other. No diagonal is tested.
-#[unsafe(no_mangle)]
-pub extern "C" fn Usolve(mode: i32, maxmod: i32, n: i32, u: &[f64], y: &mut [f64]) -> u32
-    ensures { SolveOutcome (ieee binary64) mode maxmod n u.now y.old y.new result }
+// What Usolve does. A mode is a number of the C interface: 1 is plain, any other transposed.
+#[tactic(auto, unfolding(zero_based_tests::specs::Refusals::solve_lacks_room, crate::specs::Outcome::solve_of))]
+fn solve(mode: i32, maxmod: i32, n: i32, u: &[f64], y: &mut [f64]) -> Result<(), Refusal>
+    ensures { SolveOutcome (ieee binary64) mode maxmod n u.now y.old y.new (outcome_number result) }
 {
     let dimension = size(n);
     if dimension == 0 {
-        return 11;
+        return Err(Refusal::PassedOver);
     }
     let capacity = stride(maxmod);
     if solve_lacks_room(dimension, capacity, u.len(), y.len()) {
-        return 12;
+        return Err(Refusal::LacksRoom);
     }
-    if size(mode) == 1 {
+    if mode == 1 {
         back_substitute(dimension, capacity, u, y);
     } else {
         forward_substitute(dimension, capacity, u, y);
     }
-    0
+    Ok(())
 }

@@ -15,10 +15,8 @@ ghost use Rattle.answers.specs.Numbers.{index_after};
 ghost use Rattle.managed_c.specs.Returned.{SolveReturned, LengthsReturned, ReadyReturned};
 
 use answers::{answer_number, named_index};
-use api::{Adoption, LuMod};
-use readiness::Readiness;
-use refusals::refusal_number;
-use storage::RequiredLengths;
+use api::LuMod;
+use refusals::Refusal;
 
 // The lengths of L and U that a capacity needs.
 #[unsafe(no_mangle)]
@@ -26,12 +24,11 @@ pub extern "C" fn lumod_storage_lengths(capacity: usize, l: &mut usize, u: &mut 
     ensures { LengthsReturned (required_lengths capacity) l.old u.old l.new u.new result }
 {
     let required = LuMod::storage_lengths(capacity);
-    let RequiredLengths::Lengths(lengths) = required else {
-        return 2;
-    };
-    *l = lengths.l;
-    *u = lengths.u;
-    0
+    if let Ok(lengths) = required {
+        *l = lengths.l;
+        *u = lengths.u;
+    }
+    answer_number(required.map_err(Refusal::from))
 }
 
 // Whether storage can be adopted at a dimension and a capacity.
@@ -40,10 +37,7 @@ pub extern "C" fn lumod_from_storage(n: usize, c: usize, l: &[f64], u: &[f64]) -
     ensures { result ≡ calls.refusal_number (storage_tests n c (length l.now) (length u.now)) }
 {
     let adoption = LuMod::from_storage(n, c, l, u);
-    match adoption {
-        Adoption::Adopted(_) => 0,
-        Adoption::Refused(refusal) => refusal_number(refusal),
-    }
+    answer_number(adoption)
 }
 
 // Solves in place.
@@ -65,9 +59,8 @@ pub extern "C" fn lumod_solve(
         counter: 0,
     };
     let result = state.solve_in_place(l, u, rhs);
-    let answer = result.answer;
-    *index = named_index(answer, *index);
-    answer_number(answer)
+    *index = named_index(result.answer, *index);
+    answer_number(result.answer)
 }
 
 // Solves with the transpose in place.
@@ -89,9 +82,8 @@ pub extern "C" fn lumod_solve_transpose(
         counter: 0,
     };
     let result = state.solve_transpose_in_place(l, u, rhs);
-    let answer = result.answer;
-    *index = named_index(answer, *index);
-    answer_number(answer)
+    *index = named_index(result.answer, *index);
+    answer_number(result.answer)
 }
 
 // Whether a solve would be carried out.
@@ -105,16 +97,9 @@ pub extern "C" fn lumod_ready(n: usize, c: usize, l: &[f64], u: &[f64], ready: &
         capacity: c,
         counter: 0,
     };
-    let readiness = state.ready(l, u);
-    match readiness {
-        Readiness::Ready => {
-            *ready = 1;
-            0
-        }
-        Readiness::NotReady => {
-            *ready = 0;
-            0
-        }
-        Readiness::Refused(refusal) => refusal_number(refusal),
+    let answer = state.ready(l, u);
+    if let Ok(is_ready) = answer {
+        *ready = u8::from(is_ready);
     }
+    answer_number(answer)
 }

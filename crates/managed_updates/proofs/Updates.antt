@@ -1,4 +1,5 @@
 -- From storage that passed its tests to what the updates ask for, and a workspace that an update is not lent.
+use mathlib.Core.Path.{◌≡◌}
 use mathlib.Core.List.{List}
 use Prim.Native.Nat.{ℕ, ◌≤◌}
 use native.Mathlib.Omega.{arith}
@@ -18,3 +19,8 @@ room N m h p = record { stride = p.capacity; dimension = h; l_long = omega (arit
 pub lent_otherwise : (N : NumberForm) (E T : N.Value) {c n m k : ℕ} {call : Call N.Value} {l u y x z w l' u' y' x' w' : List N.Value}
     → CarriedOut N E T c n m call l u y x w l' u' y' x' w' k → CarriedOut N E T c n m call l u y z w l' u' y' z w' k
 lent_otherwise N E T d = record { factors = record { agree = d.factors.agree; frame = frame_middle N d.factors.frame }; steps = d.steps }
+
+-- the same buffers of L and U under other names
+pub carried_out_named : (N : NumberForm) (E T : N.Value) {c n m k : ℕ} {call : Call N.Value} {l u y z w l₁ u₁ l' u' y' z' w' : List N.Value} → l' ≡ l₁ → u' ≡ u₁
+    → CarriedOut N E T c n m call l u y z w l₁ u₁ y' z' w' k → CarriedOut N E T c n m call l u y z w l' u' y' z' w' k
+carried_out_named N E T e f d = rw (e, f) d

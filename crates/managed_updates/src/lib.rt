@@ -1,27 +1,35 @@
 // The four managed updates on a dimension, a capacity and lent slices: each is tested, and then either refused, with nothing written, or carried out.
 #![tactic(auto)]
 
+ghost use Rattle.std.specs.Prelude.{◌≡◌, length};
 ghost use Rattle.std.specs.Float.{binary64};
 ghost use Rattle.machine.specs.Calls as calls;
 ghost use Rattle.managed_updates.specs.Attempted.{report_of, remove_report_of, Attempted};
 
 use call_tests::{test_push, test_remove, test_replacement};
+use factors::Factors;
 use managed::LentLengths;
 use numerics::tolerance::managed;
-use refusals::{Refusal, Test};
+use refusals::Refusal;
 
 // What an update that was carried out leaves: the dimension, and how many pair steps it made.
-#[derive(Clone, Copy)]
+#[derive(Clone, Copy, Debug, PartialEq, Eq)]
 pub struct Made {
     pub dimension: usize,
     pub steps: usize,
 }
 
-// What an update came to.
-#[derive(Clone, Copy)]
-pub enum Update {
-    Made(Made),
-    Refused(Refusal),
+// The lengths of what an update is lent.
+fn lengths(l: &[f64], u: &[f64], y: &[f64], z: &[f64], w: &[f64]) -> LentLengths
+    ensures { result ≡ record { l = length l.now; u = length u.now; y = length y.now; z = length z.now; w = length w.now } }
+{
+    LentLengths {
+        l: l.len(),
+        u: u.len(),
+        y: y.len(),
+        z: z.len(),
+        w: w.len(),
+    }
 }
 
 // Appends a row and a column: 4, 7, 23, 8.
@@ -36,23 +44,20 @@ pub fn push(
     row: &[f64],
     column: &[f64],
     diagonal: f64,
-) -> Update
+) -> Result<Made, Refusal>
     ensures { Attempted binary64 (calls.push row.now column.now diagonal) (report_of result) n capacity result
         l.old u.old y.old z.old w.old l.new u.new y.new z.new w.new }
 {
-    let lent = LentLengths {
-        l: l.len(),
-        u: u.len(),
-        y: y.len(),
-        z: z.len(),
-        w: w.len(),
+    let lent = lengths(l, u, y, z, w);
+    test_push(n, capacity, lent, row, column, diagonal)?;
+    let mut factors = Factors {
+        n: n + 1,
+        stride: capacity,
+        l,
+        u,
     };
-    let test = test_push(n, capacity, lent, row, column, diagonal);
-    if let Test::Refused(refusal) = test {
-        return Update::Refused(refusal);
-    }
-    let steps = copied_data::push(n, capacity, l, u, y, w, row, column, diagonal);
-    Update::Made(Made {
+    let steps = copied_data::push(&mut factors, y, w, row, column, diagonal);
+    Ok(Made {
         dimension: n + 1,
         steps,
     })
@@ -69,24 +74,21 @@ pub fn replace_row(
     w: &mut [f64],
     row: usize,
     values: &[f64],
-) -> Update
+) -> Result<Made, Refusal>
     ensures { Attempted binary64 (calls.replace_row row values.now) (report_of result) n capacity result
         l.old u.old y.old z.old w.old l.new u.new y.new z.new w.new }
 {
-    let lent = LentLengths {
-        l: l.len(),
-        u: u.len(),
-        y: y.len(),
-        z: z.len(),
-        w: w.len(),
-    };
+    let lent = lengths(l, u, y, z, w);
     let outside = Refusal::RowOutOfBounds;
-    let test = test_replacement(n, capacity, lent, row, outside, values);
-    if let Test::Refused(refusal) = test {
-        return Update::Refused(refusal);
-    }
-    let steps = copied_data::replace_row(row, n, capacity, l, u, y, z, w, values);
-    Update::Made(Made {
+    test_replacement(n, capacity, lent, row, outside, values)?;
+    let mut factors = Factors {
+        n,
+        stride: capacity,
+        l,
+        u,
+    };
+    let steps = copied_data::replace_row(row, &mut factors, y, z, w, values);
+    Ok(Made {
         dimension: n,
         steps,
     })
@@ -103,24 +105,21 @@ pub fn replace_column(
     w: &mut [f64],
     column: usize,
     values: &[f64],
-) -> Update
+) -> Result<Made, Refusal>
     ensures { Attempted binary64 (calls.replace_column column values.now) (report_of result) n capacity result
         l.old u.old y.old z.old w.old l.new u.new y.new z.new w.new }
 {
-    let lent = LentLengths {
-        l: l.len(),
-        u: u.len(),
-        y: y.len(),
-        z: z.len(),
-        w: w.len(),
-    };
+    let lent = lengths(l, u, y, z, w);
     let outside = Refusal::ColumnOutOfBounds;
-    let test = test_replacement(n, capacity, lent, column, outside, values);
-    if let Test::Refused(refusal) = test {
-        return Update::Refused(refusal);
-    }
-    let steps = update_column::replace_column(column, n, capacity, l, u, y, values, w, managed());
-    Update::Made(Made {
+    test_replacement(n, capacity, lent, column, outside, values)?;
+    let mut factors = Factors {
+        n,
+        stride: capacity,
+        l,
+        u,
+    };
+    let steps = update_column::replace_column(column, &mut factors, y, values, w, managed());
+    Ok(Made {
         dimension: n,
         steps,
     })
@@ -137,23 +136,20 @@ pub fn remove(
     w: &mut [f64],
     row: usize,
     column: usize,
-) -> Update
+) -> Result<Made, Refusal>
     ensures { Attempted binary64 (calls.remove row column) (remove_report_of row column result) n capacity result
         l.old u.old y.old z.old w.old l.new u.new y.new z.new w.new }
 {
-    let lent = LentLengths {
-        l: l.len(),
-        u: u.len(),
-        y: y.len(),
-        z: z.len(),
-        w: w.len(),
+    let lent = lengths(l, u, y, z, w);
+    test_remove(n, capacity, lent, row, column)?;
+    let mut factors = Factors {
+        n,
+        stride: capacity,
+        l,
+        u,
     };
-    let test = test_remove(n, capacity, lent, row, column);
-    if let Test::Refused(refusal) = test {
-        return Update::Refused(refusal);
-    }
-    let steps = update_remove::remove(row, column, n, capacity, l, u, y, z, w, managed());
-    Update::Made(Made {
+    let steps = update_remove::remove(row, column, &mut factors, y, z, w, managed());
+    Ok(Made {
         dimension: n - 1,
         steps,
     })

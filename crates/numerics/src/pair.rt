@@ -5,12 +5,21 @@ ghost use Rattle.numbers.specs.NumberForm.{ieee};
 ghost use Rattle.numbers.specs.PairStep.{Stepped, first, second};
 
 use crate::real::abs;
+use std::mem::swap;
 
 // What a pair step found: whether the two are exchanged, and what multiple of the first is added to the second.
-#[derive(Clone, Copy)]
+#[derive(Clone, Copy, Debug, PartialEq)]
 pub struct Transform {
     pub swap: bool,
     pub multiplier: f64,
+}
+
+impl Transform {
+    // It leaves every pair as it is.
+    const IDENTITY: Transform = Transform {
+        swap: false,
+        multiplier: 0.0,
+    };
 }
 
 // The pair step on x and y, with T.
@@ -22,10 +31,7 @@ pub fn elementary(x: &mut f64, y: &mut f64, tiny: f64) -> Transform
     let transform = if size_x >= size_y {
         if size_x <= tiny {
             *x = 0.0;
-            Transform {
-                swap: false,
-                multiplier: 0.0,
-            }
+            Transform::IDENTITY
         } else {
             Transform {
                 swap: false,
@@ -34,10 +40,7 @@ pub fn elementary(x: &mut f64, y: &mut f64, tiny: f64) -> Transform
         }
     } else if size_y <= tiny {
         *x = 0.0;
-        Transform {
-            swap: false,
-            multiplier: 0.0,
-        }
+        Transform::IDENTITY
     } else {
         let multiplier = -*x / *y;
         *x = *y;
@@ -56,11 +59,9 @@ pub fn apply_pair(x: &mut f64, y: &mut f64, transform: Transform)
         × (y.new ≡ second (ieee binary64) transform.swap transform.multiplier x.old y.old) }
 {
     if transform.swap {
-        let first = *x;
-        *x = *y;
-        *y = first;
+        swap(x, y);
     }
     if transform.multiplier != 0.0 {
-        *y = *y + transform.multiplier * *x;
+        *y += transform.multiplier * *x;
     }
 }

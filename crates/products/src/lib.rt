@@ -40,10 +40,10 @@ fn four_dots(
     let mut fourth = 0.0;
     for k in 0..count {
         let value = input[start + k];
-        first = first + l[a + k] * value;
-        second = second + l[b + k] * value;
-        third = third + l[c + k] * value;
-        fourth = fourth + l[d + k] * value;
+        first += l[a + k] * value;
+        second += l[b + k] * value;
+        third += l[c + k] * value;
+        fourth += l[d + k] * value;
     }
     FourSums {
         first,
@@ -89,12 +89,11 @@ fn products_by_fours(
     requires { LRoom (ieee binary64) stride n l.now × ((start + n ≤ length input.now) × (n ≤ length output.old)) }
     ensures { (result ≤ n) × Written (ieee binary64) (λ i. i) result (l_product_from (ieee binary64) stride n l.now input.now start) output.old output.new }
 {
-    let mut i = 0;
-    while i + 4 <= n {
+    for four in 0..n / 4 {
+        let i = 4 * four;
         four_products(i, n, stride, l, input, start, output);
-        i += 4;
     }
-    i
+    n - n % 4
 }
 
 // output[i] takes the sum of L(i, j) * input[start + j], j from 0 up to n - 1, for i below n.

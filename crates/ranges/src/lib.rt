@@ -13,9 +13,7 @@ pub fn copy(target: &mut [f64], at: usize, source: &[f64], start: usize, count: 
     requires { (at + count ≤ length target.old) × (start + count ≤ length source.now) }
     ensures { Written (ieee binary64) (from at) count (λ k. entry (ieee binary64) source.now (start + k)) target.old target.new }
 {
-    for k in 0..count {
-        target[at + k] = source[start + k];
-    }
+    target[at..at + count].copy_from_slice(&source[start..start + count]);
 }
 
 // Sets count entries of `target`, from `at` on, to one value.
@@ -23,9 +21,7 @@ pub fn fill(target: &mut [f64], at: usize, count: usize, value: f64)
     requires { at + count ≤ length target.old }
     ensures { Written (ieee binary64) (from at) count (λ k. value) target.old target.new }
 {
-    for k in 0..count {
-        target[at + k] = value;
-    }
+    target[at..at + count].fill(value);
 }
 
 // The products a[x + k] * b[y + k], k from 0 up to count - 1, added to +0 in that order.
@@ -34,8 +30,8 @@ pub fn dot(a: &[f64], x: usize, b: &[f64], y: usize, count: usize) -> f64
     ensures { result ≡ dot_product (ieee binary64) a.now x b.now y count }
 {
     let mut value = 0.0;
-    for k in 0..count {
-        value = value + a[x + k] * b[y + k];
+    for (p, q) in a[x..x + count].iter().zip(&b[y..y + count]) {
+        value += p * q;
     }
     value
 }
@@ -46,6 +42,6 @@ pub fn add_multiple(target: &mut [f64], source: &[f64], start: usize, count: usi
     ensures { Written (ieee binary64) (λ k. k) count (multiple_added (ieee binary64) target.old source.now start factor) target.old target.new }
 {
     for k in 0..count {
-        target[k] = target[k] + source[start + k] * factor;
+        target[k] += source[start + k] * factor;
     }
 }

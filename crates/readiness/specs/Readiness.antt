@@ -1,12 +1,10 @@
 -- What `ready` answers.
-use Rattle.std.specs.Prelude.{true, false}
+use Rattle.std.specs.Prelude.{Bool, Result, Ok, Err}
 use Rattle.managed.specs.StorageAnswers.{ReadyAnswer, answered, not_answered}
+use Rattle.refusals.specs.declared.Refusal.{Refusal}
 use Rattle.refusals.specs.Refusal.{refusal_of}
-use Rattle.readiness.specs.declared.Readiness as declared
-use Rattle.readiness.specs.declared.Readiness.TheVariants.{Ready, NotReady, Refused}
 
 -- yes or no, or the refusal
-abbrev pub readiness_of : declared.Readiness → ReadyAnswer
-readiness_of Ready = answered true
-readiness_of NotReady = answered false
-readiness_of (Refused r) = not_answered (refusal_of r)
+abbrev pub readiness_of : Result Bool Refusal → ReadyAnswer
+readiness_of (Ok b) = answered b
+readiness_of (Err r) = not_answered (refusal_of r)

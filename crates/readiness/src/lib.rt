@@ -10,28 +10,14 @@ ghost use Rattle.managed.specs.Refusals.{storage_tests};
 ghost use Rattle.managed.specs.StorageAnswers.{ready_under};
 ghost use Rattle.readiness.specs.Readiness.{readiness_of};
 
-use refusals::{Refusal, Test, test_diagonals, test_storage};
-
-// Whether a solve would divide by sound diagonals alone.
-#[derive(Clone, Copy)]
-pub enum Readiness {
-    Ready,
-    NotReady,
-    Refused(Refusal),
-}
+use refusals::{Refusal, test_diagonals, test_storage};
 
 // The storage's refusal, or whether no active diagonal of U is zero, infinite or NaN.
-pub fn ready(n: usize, capacity: usize, l: &[f64], u: &[f64]) -> Readiness
+#[tactic(auto, using(managed::proofs::Refusals::storage_passed))]
+pub fn ready(n: usize, capacity: usize, l: &[f64], u: &[f64]) -> Result<bool, Refusal>
     ensures { readiness_of result ≡ ready_under (storage_tests n capacity (length l.now) (length u.now))
         (diagonals (ieee binary64) (view_u (ieee binary64) capacity u.now) n) }
 {
-    let test = test_storage(n, capacity, l.len(), u.len());
-    if let Test::Refused(refusal) = test {
-        return Readiness::Refused(refusal);
-    }
-    let found = test_diagonals(n, capacity, u);
-    match found {
-        Test::Passed => Readiness::Ready,
-        Test::Refused(_) => Readiness::NotReady,
-    }
+    test_storage(n, capacity, l.len(), u.len())?;
+    Ok(test_diagonals(n, capacity, u).is_ok())
 }

@@ -1,10 +1,9 @@
 -- What the tests of the managed calls answer, in the numbers of documents 01 and 02.
+use Rattle.std.specs.Prelude.{Result, Ok, Err}
 use Rattle.std.proofs.Math.Option.{Option, none, some}
 use Rattle.machine.specs.Calls.{Answer, done, refused, refused_at}
 use Rattle.refusals.specs.declared.Refusal.{Refusal}
 use Rattle.refusals.specs.declared.Refusal.TheVariants as refusal
-use Rattle.refusals.specs.declared.Test.{Test}
-use Rattle.refusals.specs.declared.Test.TheVariants as test
 
 -- the number, and index, for each case of `Refusal`
 abbrev pub refusal_of : Refusal → Answer
@@ -23,11 +22,11 @@ refusal_of (refusal.Singular i) = refused_at 9 i
 refusal_of (refusal.NonFiniteDiagonal i) = refused_at 10 i
 
 -- what a test says: no refusal, or which
-abbrev pub test_of : Test → Option Answer
-test_of test.Passed = none
-test_of (test.Refused r) = some (refusal_of r)
+abbrev pub test_of : Result (Unit {0}) Refusal → Option Answer
+test_of (Ok v) = none
+test_of (Err r) = some (refusal_of r)
 
--- what a call answers whose test that is: 0, or the refusal's number
-abbrev pub answer_of : Test → Answer
-answer_of test.Passed = done
-answer_of (test.Refused r) = refusal_of r
+-- what a call answers, remove apart: 0, or the refusal's number with its index
+abbrev pub answer_of : {T : Type 0} → Result T Refusal → Answer
+answer_of (Ok v) = done
+answer_of (Err r) = refusal_of r

@@ -1,22 +1,27 @@
 // The refusals by their names, and the tests that calls share: of storage, of workspaces, of the diagonal. A test only reads.
 #![tactic(auto)]
 
-ghost use Rattle.std.specs.Prelude.{◌≡◌, true};
+ghost use Rattle.std.specs.Prelude.{◌≡◌, true, Err, Some};
 ghost use Rattle.std.specs.Float.{binary64};
 ghost use Rattle.numbers.specs.NumberForm.{ieee};
 ghost use Rattle.machine.specs.Calls.{number_of};
 ghost use Rattle.machine.specs.Solves.{diagonals};
 ghost use Rattle.storage.specs.Views.{view_u, URoom};
+ghost use Rattle.diagonals.specs.Diagonal as diagonal;
 ghost use Rattle.managed.specs.Refusals.{size_tests, storage_tests, lent_tests};
+ghost use Rattle.refusals.specs.declared.Refusal.TheVariants as refusal;
 ghost use Rattle.refusals.specs.Refusal.{refusal_of, test_of};
+ghost use Rattle.refusals.specs.Text.{text_of};
 
-use diagonals::{Diagonal, test_diagonal};
+use diagonals::{BadDiagonal, test_diagonal};
 use managed::LentLengths;
-use storage::{RequiredLengths, storage_lengths};
+use std::error::Error;
+use std::fmt;
+use storage::{SizeOverflow, storage_lengths};
 
 // Why a managed call is refused: document 01's 1 to 10 with document 02's 13, 14 and 23, in the order in which they are tested. The Rust's InsufficientStorage
 // is three of them: InsufficientL, InsufficientU and UnequalWorkspaces.
-#[derive(Clone, Copy)]
+#[derive(Clone, Copy, Debug, PartialEq, Eq)]
 pub enum Refusal {
     InvalidDimension,
     SizeOverflow,
@@ -33,11 +38,51 @@ pub enum Refusal {
     NonFiniteDiagonal(usize),
 }
 
-// What a test answers.
-#[derive(Clone, Copy)]
-pub enum Test {
-    Passed,
-    Refused(Refusal),
+// In words, with the index where it has one.
+impl fmt::Display for Refusal {
+    ghost output = { λ refused. Some (text_of refused) };
+
+    fn fmt<W: fmt::Write>(&self, f: &mut fmt::Formatter<W>) -> fmt::Result {
+        match self {
+            Refusal::InvalidDimension => f.write_str("the dimension exceeds the capacity"),
+            Refusal::SizeOverflow => f.write_str("the lengths for the capacity exceed usize"),
+            Refusal::InsufficientL => f.write_str("L is too short"),
+            Refusal::InsufficientU => f.write_str("U is too short"),
+            Refusal::UnequalWorkspaces => f.write_str("the workspaces have unequal lengths"),
+            Refusal::CapacityExceeded => f.write_str("the dimension is the capacity already"),
+            Refusal::RowOutOfBounds => f.write_str("there is no such row"),
+            Refusal::ColumnOutOfBounds => f.write_str("there is no such column"),
+            Refusal::LengthMismatch => f.write_str("lent data are not as long as the dimension"),
+            Refusal::NonFiniteData(place) => write!(
+                f,
+                "the value at place {place} is infinite or NaN"
+            ),
+            Refusal::InsufficientWorkspace => f.write_str("the workspaces are too short"),
+            Refusal::Singular(i) => write!(f, "diagonal {i} of U is zero"),
+            Refusal::NonFiniteDiagonal(i) => write!(f, "diagonal {i} of U is infinite or NaN"),
+        }
+    }
+}
+
+impl Error for Refusal {}
+
+impl From<SizeOverflow> for Refusal {
+    ghost from_gives = { λ _ r. r ≡ refusal.SizeOverflow };
+
+    fn from(_overflow: SizeOverflow) -> Refusal {
+        Refusal::SizeOverflow
+    }
+}
+
+impl From<BadDiagonal> for Refusal {
+    ghost from_gives = { λ bad r. test_of (Err r) ≡ diagonal.answer_of (Err bad) };
+
+    fn from(bad: BadDiagonal) -> Refusal {
+        match bad {
+            BadDiagonal::Zero(i) => Refusal::Singular(i),
+            BadDiagonal::NonFinite(i) => Refusal::NonFiniteDiagonal(i),
+        }
+    }
 }
 
 // The number of a refusal in document 01's table, with those that document 02 adds.
@@ -62,58 +107,48 @@ pub fn refusal_number(refusal: Refusal) -> u32
 }
 
 // 2 for a capacity, 3 for the length of L and 13 for that of U.
-pub fn test_sizes(capacity: usize, l: usize, u: usize) -> Test
+#[tactic(auto, unfolding(managed::specs::Refusals::size_tests))]
+pub fn test_sizes(capacity: usize, l: usize, u: usize) -> Result<(), Refusal>
     ensures { test_of result ≡ size_tests capacity l u }
 {
-    let required = storage_lengths(capacity);
-    let RequiredLengths::Lengths(lengths) = required else {
-        return Test::Refused(Refusal::SizeOverflow);
-    };
+    let lengths = storage_lengths(capacity)?;
     if l < lengths.l {
-        return Test::Refused(Refusal::InsufficientL);
+        return Err(Refusal::InsufficientL);
     }
     if u < lengths.u {
-        return Test::Refused(Refusal::InsufficientU);
+        return Err(Refusal::InsufficientU);
     }
-    Test::Passed
+    Ok(())
 }
 
 // 1 for the dimension, then 2, 3 and 13.
-pub fn test_storage(n: usize, capacity: usize, l: usize, u: usize) -> Test
+#[tactic(auto, unfolding(managed::specs::Refusals::dimension_test))]
+pub fn test_storage(n: usize, capacity: usize, l: usize, u: usize) -> Result<(), Refusal>
     ensures { test_of result ≡ storage_tests n capacity l u }
 {
     if n > capacity {
-        return Test::Refused(Refusal::InvalidDimension);
+        return Err(Refusal::InvalidDimension);
     }
     test_sizes(capacity, l, u)
 }
 
 // What an update lends: 1, 2, 3 and 13 for its storage, then 14 for its workspaces.
-pub fn test_lent(n: usize, capacity: usize, lent: LentLengths) -> Test
+#[tactic(auto, unfolding(managed::specs::Refusals::workspace_tests))]
+pub fn test_lent(n: usize, capacity: usize, lent: LentLengths) -> Result<(), Refusal>
     ensures { test_of result ≡ lent_tests true n capacity lent }
 {
-    let storage = test_storage(n, capacity, lent.l, lent.u);
-    let Test::Passed = storage else {
-        return storage;
-    };
-    if lent.y != lent.z {
-        return Test::Refused(Refusal::UnequalWorkspaces);
+    test_storage(n, capacity, lent.l, lent.u)?;
+    if lent.y != lent.z || lent.y != lent.w {
+        return Err(Refusal::UnequalWorkspaces);
     }
-    if lent.y != lent.w {
-        return Test::Refused(Refusal::UnequalWorkspaces);
-    }
-    Test::Passed
+    Ok(())
 }
 
 // 9 and 10: the diagonal of U upward, in storage that passed its tests.
-pub fn test_diagonals(n: usize, capacity: usize, u: &[f64]) -> Test
+pub fn test_diagonals(n: usize, capacity: usize, u: &[f64]) -> Result<(), Refusal>
     requires { URoom (ieee binary64) capacity n u.now }
     ensures { test_of result ≡ diagonals (ieee binary64) (view_u (ieee binary64) capacity u.now) n }
 {
-    let found = test_diagonal(n, capacity, u);
-    match found {
-        Diagonal::Sound => Test::Passed,
-        Diagonal::Zero(i) => Test::Refused(Refusal::Singular(i)),
-        Diagonal::NonFinite(i) => Test::Refused(Refusal::NonFiniteDiagonal(i)),
-    }
+    test_diagonal(n, capacity, u)?;
+    Ok(())
 }

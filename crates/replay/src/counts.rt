@@ -1,81 +1,64 @@
-// Counting calls, answers and differences, and the line at the end.
-use crate::print::{number, size, text};
-use std::io;
+// Counting calls, answers and differences, and what is printed of them.
+use crate::answer::Called;
+use std::{fmt, io};
+
+// A call by its list and its number there, counted from 1.
+#[derive(Clone, Copy)]
+pub struct Position {
+    pub list: u64,
+    pub call: u64,
+}
+
+impl fmt::Display for Position {
+    fn fmt<W: fmt::Write>(&self, f: &mut fmt::Formatter<W>) -> fmt::Result {
+        write!(f, "list {}, call {}", self.list, self.call)
+    }
+}
 
 // How many calls there were, how many pair steps and differences, and how many answers of each number up to 23.
-#[derive(Clone, Copy)]
+#[derive(Debug, Default, Drop)]
 pub struct Counts {
-    pub calls: u64,
-    pub steps: u64,
-    pub differences: u64,
-    pub answers: [u64; 24],
+    calls: u64,
+    steps: u64,
+    differences: u64,
+    answers: [u64; 24],
 }
 
-fn more(n: u64) -> u64 {
-    std::num::wrapping_add_u64(n, 1)
-}
-
-// Counts a call, its pair steps and its answer.
-pub fn count(before: Counts, number: usize, steps: usize) -> Counts {
-    let mut counts = before;
-    counts.calls = more(counts.calls);
-    counts.steps = std::num::wrapping_add_u64(counts.steps, steps as u64);
-    if number < 24 {
-        counts.answers[number] = more(counts.answers[number]);
+impl Counts {
+    // Counts a call, its pair steps and its answer.
+    pub fn count(&mut self, called: &Called) {
+        self.calls = self.calls.wrapping_add(1);
+        self.steps = self.steps.wrapping_add(called.steps as u64);
+        if let Some(count) = self.answers.get_mut(called.answer.number) {
+            *count = count.wrapping_add(1);
+        }
     }
-    counts
+
+    // Counts a difference, and names the first few.
+    pub fn note(&mut self, rt: &impl Print, position: Position, what: &str) -> io::Result<()> {
+        self.differences = self.differences.wrapping_add(1);
+        if self.differences <= 8 {
+            println!(rt; "{position}: {what}")?;
+        }
+        Ok(())
+    }
 }
 
-// Counts a difference, where there is one, and names the first few.
-pub fn note(
-    rt: &impl Print,
-    list: usize,
-    call: usize,
-    differs: bool,
-    what: &[u8],
-    before: Counts,
-) -> io::Result<Counts> {
-    if !differs {
-        return Ok(before);
+impl fmt::Display for Counts {
+    fn fmt<W: fmt::Write>(&self, f: &mut fmt::Formatter<W>) -> fmt::Result {
+        let answers = &self.answers;
+        write!(
+            f,
+            "{} calls, {} pair steps, refusals 1 to 10, 13, 14 and 23:",
+            self.calls, self.steps
+        )?;
+        for count in &answers[1..11] {
+            write!(f, " {count}")?;
+        }
+        write!(
+            f,
+            " {} {} {}, {} differences",
+            answers[13], answers[14], answers[23], self.differences
+        )
     }
-    let mut counts = before;
-    counts.differences = more(counts.differences);
-    if counts.differences > 8 {
-        return Ok(counts);
-    }
-    text(rt, b"list ")?;
-    size(rt, list)?;
-    text(rt, b", call ")?;
-    size(rt, call)?;
-    text(rt, what)?;
-    Ok(counts)
-}
-
-// How often each refusal from 1 to 10 was given.
-fn refusals(rt: &impl Print, counts: Counts) -> io::Result<()> {
-    for i in 1..11 {
-        text(rt, b" ")?;
-        number(rt, counts.answers[i])?;
-    }
-    Ok(())
-}
-
-// The line at the end.
-pub fn summary(rt: &impl Print, lists: usize, counts: Counts) -> io::Result<()> {
-    size(rt, lists)?;
-    text(rt, b" lists, ")?;
-    number(rt, counts.calls)?;
-    text(rt, b" calls, ")?;
-    number(rt, counts.steps)?;
-    text(rt, b" pair steps, refusals 1 to 10, 13, 14 and 23:")?;
-    refusals(rt, counts)?;
-    text(rt, b" ")?;
-    number(rt, counts.answers[13])?;
-    text(rt, b" ")?;
-    number(rt, counts.answers[14])?;
-    text(rt, b" ")?;
-    number(rt, counts.answers[23])?;
-    text(rt, b", ")?;
-    number(rt, counts.differences)?;
-    text(rt, b" differences\n")
 }

@@ -1,87 +1,74 @@
-// Reading the sample: words of eight bytes, the lowest first. A read past the end gives 0; whoever reads a record tests that it ends within the sample.
+// Reading the sample: words of eight bytes, the lowest first.
+ghost use Rattle.std.specs.Prelude.{◌≤◌, length};
 
-// No sample is longer than this.
-pub const LARGEST: usize = 1048576;
+use std::error::Error;
+use std::fmt;
 
-// A position or an index past everything.
-const BEYOND: usize = 16777216;
-
-// The sum of two positions or indices, where both are small enough to be of use.
-pub fn sum(a: usize, b: usize) -> usize {
-    if a > LARGEST {
-        return BEYOND;
-    }
-    if b > LARGEST {
-        return BEYOND;
-    }
-    a + b
+// A sample that is short, too long or changed, with the byte where its list, its record or its check word starts.
+#[derive(Clone, Copy, Debug, PartialEq, Eq)]
+pub struct Malformed {
+    pub at: usize,
 }
 
-// The position that lies a number of words past another.
-pub fn after(at: usize, words: usize) -> usize {
-    if at > LARGEST {
-        return BEYOND;
+impl fmt::Display for Malformed {
+    fn fmt<W: fmt::Write>(&self, f: &mut fmt::Formatter<W>) -> fmt::Result {
+        write!(f, "the sample is malformed at byte {}", self.at)
     }
-    if words > LARGEST {
-        return BEYOND;
+}
+
+impl Error for Malformed {}
+
+// The words of a sample, and how many of them are read.
+#[derive(Drop)]
+pub struct Reader<'a> {
+    words: &'a [u64],
+    read: usize,
+    ghost within: { read ≤ length words.now },
+}
+
+impl<'a> Reader<'a> {
+    pub fn new(words: &'a [u64]) -> Reader<'a> {
+        Reader { words, read: 0 }
     }
-    at + words * 8
-}
 
-fn wide(byte: u8) -> u64 {
-    byte as u64
-}
-
-pub fn byte(data: &[u8], at: usize) -> u64 {
-    if at >= data.len() {
-        return 0;
+    // The byte where the next word starts.
+    pub fn at(&self) -> usize {
+        self.read * 8
     }
-    wide(data[at])
-}
 
-pub fn word(data: &[u8], at: usize) -> u64 {
-    if at > LARGEST {
-        return 0;
+    // The next word.
+    pub fn word(&mut self) -> Option<u64> {
+        let word = *self.words.get(self.read)?;
+        self.read += 1;
+        Some(word)
     }
-    let low = byte(data, at)
-        | byte(data, at + 1) << 8
-        | byte(data, at + 2) << 16
-        | byte(data, at + 3) << 24;
-    let high = byte(data, at + 4)
-        | byte(data, at + 5) << 8
-        | byte(data, at + 6) << 16
-        | byte(data, at + 7) << 24;
-    low | high << 32
-}
 
-// A length: a byte of the word at a position.
-pub fn length(data: &[u8], at: usize, which: usize) -> usize {
-    byte(data, sum(at, which)) as usize
-}
+    // A dimension, a capacity, an index or a count.
+    pub fn size(&mut self) -> Option<usize> {
+        Some(self.word()? as usize)
+    }
 
-// A dimension, a capacity, an index or a count: the word that lies a number of words past a position.
-pub fn size(data: &[u8], at: usize, words: usize) -> usize {
-    word(data, after(at, words)) as usize
+    // The next words, as many as are asked for.
+    pub fn take(&mut self, count: usize) -> Option<&'a [u64]> {
+        let (taken, _) = self.words[self.read..].split_at_checked(count)?;
+        self.read += count;
+        Some(taken)
+    }
+
+    // Whether one word is left, the sum of those before it modulo 2^64.
+    pub fn ends_with_check_word(&self) -> bool {
+        let (before, left) = self.words.split_at(self.read);
+        let sum = before
+            .iter()
+            .fold(0, |sum: u64, word| sum.wrapping_add(*word));
+        left == [sum].as_slice()
+    }
 }
 
 // The double that has these bits; all NaNs are one.
 pub fn double(bits: u64) -> f64 {
     if bits % 0x8000_0000_0000_0000 > 0x7FF0_0000_0000_0000 {
-        return 0.0 / 0.0;
+        return f64::NAN;
     }
     f64::from_bits(bits)
-}
-
-// The sum of the words before a position, modulo 2^64.
-pub fn check_word(data: &[u8], end: usize) -> u64 {
-    let mut total = 0;
-    let mut at = 0;
-    while at < end {
-        if at > LARGEST {
-            return total;
-        }
-        total = std::num::wrapping_add_u64(total, word(data, at));
-        at += 8;
-    }
-    total
 }

@@ -1,18 +1,39 @@
-// The buffers of a list: filled with contents that no call may read, with stored factors, with the vectors of a call.
-use crate::sample::{after, double, sum, word};
+// The buffers of a list: filled with contents that no call may read, and with stored factors.
+ghost use Rattle.std.specs.Prelude.{◌≤◌};
 
-// The bits from which the unused contents of a list count upward: NaNs, numbers near 10, subnormals, negative numbers near the largest.
-fn unused_start(list: usize) -> u64 {
-    let own = list as u64 % 65536 * 65536;
-    match list % 4 {
-        0 => 0x7FF8_0000_0000_0000 + own,
-        1 => 0x4024_0000_0000_0000 + own,
-        2 => 1 + own,
-        _ => 0xFFEF_FFFF_0000_0000 + own,
+use crate::compare::differ;
+use crate::sample::{Reader, double};
+use std::{array, slice};
+
+// The largest capacity, for which L's storage has no more than 240 entries.
+pub const LARGEST_CAPACITY: usize = 15;
+
+// Factors as the sample stores them: row by row, the row of L and then that of U from the diagonal on.
+#[derive(Clone, Copy)]
+pub struct Factors<'a> {
+    pub capacity: usize,
+    pub dimension: usize,
+    words: &'a [u64],
+    ghost small: { capacity ≤ 15 },
+    ghost within: { dimension ≤ capacity },
+}
+
+impl<'a> Factors<'a> {
+    // Reads factors, where a sample can have them at this capacity and dimension.
+    pub fn read(reader: &mut Reader<'a>, capacity: usize, dimension: usize) -> Option<Factors<'a>> {
+        if capacity > LARGEST_CAPACITY || dimension > capacity {
+            return None;
+        }
+        let words = reader.take(dimension * dimension + dimension * (dimension + 1) / 2)?;
+        Some(Factors {
+            capacity,
+            dimension,
+            words,
+        })
     }
 }
 
-// Storage for L and U, and the three workspaces.
+// Storage for L and U, and the three workspaces. A record's lengths are bytes, so each lies within an array.
 #[derive(Clone, Copy)]
 pub struct Buffers {
     pub l: [f64; 256],
@@ -22,81 +43,56 @@ pub struct Buffers {
     pub w: [f64; 256],
 }
 
-// A buffer of such contents.
-fn filled(bits: u64) -> [f64; 256] {
-    let mut buffer = [0.0; 256];
-    for i in 0..256 {
-        buffer[i] = double(std::num::wrapping_add_u64(bits, i as u64));
-    }
-    buffer
-}
-
-// All buffers, with a list's unused contents.
-pub fn unused(list: usize) -> Buffers {
-    let buffer = filled(unused_start(list));
-    Buffers {
-        l: buffer,
-        u: buffer,
-        y: buffer,
-        z: buffer,
-        w: buffer,
+// The bits from which the unused contents of a list count upward: NaNs, numbers near 10, subnormals, negative numbers near the largest.
+fn unused_start(list: u64) -> u64 {
+    let own = list % 65536 * 65536;
+    match list % 4 {
+        0 => 0x7FF8_0000_0000_0000 + own,
+        1 => 0x4024_0000_0000_0000 + own,
+        2 => 1 + own,
+        _ => 0xFFEF_FFFF_0000_0000 + own,
     }
 }
 
-// Copies `count` words of the sample to a buffer from `start` on, as far as the buffer reaches.
-fn copy_in(data: &[u8], at: usize, count: usize, buffer: &mut [f64; 256], start: usize) {
-    let mut i = 0;
-    while i < count {
-        let entry = sum(start, i);
-        if entry >= 256 {
-            return;
+// Puts the next words into a row.
+fn fill(row: &mut [f64], words: &mut slice::Iter<'_, u64>) {
+    for (entry, word) in row.iter_mut().zip(words) {
+        *entry = double(*word);
+    }
+}
+
+impl Buffers {
+    // All buffers, with a list's unused contents.
+    pub fn unused(list: u64) -> Buffers {
+        let start = unused_start(list);
+        let buffer = array::from_fn(|i| double(start.wrapping_add(i as u64)));
+        Buffers {
+            l: buffer,
+            u: buffer,
+            y: buffer,
+            z: buffer,
+            w: buffer,
         }
-        buffer[entry] = double(word(data, after(at, i)));
-        i += 1;
     }
-}
 
-// A vector of a call: `count` words of the sample.
-pub fn vector(data: &[u8], at: usize, count: usize) -> [f64; 256] {
-    let mut buffer = [0.0; 256];
-    copy_in(data, at, count, &mut buffer, 0);
-    buffer
-}
-
-// Buffers with stored factors put into them: row by row, the row of L and then that of U.
-pub fn placed(data: &[u8], at: usize, n: usize, capacity: usize, before: Buffers) -> Buffers {
-    let mut l = before.l;
-    let mut u = before.u;
-    let mut row_at = at;
-    let mut l_start = 0;
-    let mut u_start = 0;
-    let mut step = capacity;
-    let mut left = n;
-    while left > 0 {
-        copy_in(data, row_at, n, &mut l, l_start);
-        row_at = after(row_at, n);
-        copy_in(data, row_at, left, &mut u, u_start);
-        row_at = after(row_at, left);
-        l_start = sum(l_start, capacity);
-        u_start = sum(u_start, step);
-        if step > 0 {
-            step -= 1;
+    // Puts stored factors in.
+    pub fn place(&mut self, factors: &Factors<'_>) {
+        let n = factors.dimension;
+        let mut words = factors.words.iter();
+        let mut l_start = 0;
+        let mut u_start = 0;
+        for row in 0..n {
+            fill(&mut self.l[l_start..l_start + n], &mut words);
+            fill(&mut self.u[u_start..u_start + n - row], &mut words);
+            l_start += factors.capacity;
+            u_start += factors.capacity - row;
         }
-        left -= 1;
     }
-    let mut buffers = before;
-    buffers.l = l;
-    buffers.u = u;
-    buffers
-}
 
-// The position after stored factors.
-pub fn factors_end(at: usize, n: usize) -> usize {
-    let mut end = at;
-    let mut left = n;
-    while left > 0 {
-        end = after(after(end, n), left);
-        left -= 1;
+    // Whether the active entries of L and U are others than those that are stored.
+    pub fn differ(&self, factors: &Factors<'_>) -> bool {
+        let mut stored = *self;
+        stored.place(factors);
+        differ(&self.l, &stored.l) || differ(&self.u, &stored.u)
     }
-    end
 }

@@ -9,11 +9,13 @@ ghost use Rattle.machine.specs.Updates.{with_unit_row, restored, column_dropped}
 ghost use Rattle.machine.specs.Counts.{restored_count, column_dropped_count};
 ghost use Rattle.storage.specs.Views.{view_l, view_u, LRoom};
 ghost use Rattle.storage.specs.Updated.{Updated};
-ghost use Rattle.buffers.specs.Performed.{work_of, Room, Performed};
+ghost use Rattle.factors.specs.SameStorage.{SameStorage};
+ghost use Rattle.factors.specs.StepPerformed.{work_with, StepPerformed};
 ghost use Rattle.stages.specs.Stages.{LUpdated};
 
 use backward::{backward, trim};
 use columns::{read_u_column, write_u_column};
+use factors::Factors;
 use forward::forward;
 use numerics::tolerance::Numerics;
 use ranges::fill;
@@ -34,37 +36,22 @@ pub fn set_unit_row(row: usize, column: usize, n: usize, stride: usize, l: &mut 
 pub fn restore(
     column: usize,
     last: usize,
-    n: usize,
     columns: usize,
-    stride: usize,
-    l: &mut [f64],
-    u: &mut [f64],
+    factors: &mut Factors<'_>,
     y: &mut [f64],
     w: &mut [f64],
     numerics: Numerics,
 ) -> usize
-    requires { Room (ieee binary64) stride n l.old u.old × ((n ≤ length y.old) × ((n ≤ length w.old) × ((column < last) × ((last < n) × ((last ≤ columns)
-        × (columns ≤ n)))))) }
-    ensures { Performed (ieee binary64) stride n column columns 0 (restored (ieee binary64) numerics.epsilon numerics.tiny column last columns)
-        l.old u.old y.old w.old l.new u.new y.new w.new
-        × (result ≡ restored_count (ieee binary64) numerics.epsilon numerics.tiny column last columns
-        (work_of (ieee binary64) stride l.old u.old y.old w.old)) }
+    requires { (factors.old.n ≤ length y.old) × ((factors.old.n ≤ length w.old) × ((column < last) × ((last < factors.old.n) × ((last ≤ columns)
+        × (columns ≤ factors.old.n))))) }
+    ensures performed { StepPerformed column columns 0 (restored (ieee binary64) numerics.epsilon numerics.tiny column last columns)
+        factors.old y.old w.old factors.new y.new w.new }
+    ensures counted { result ≡ restored_count (ieee binary64) numerics.epsilon numerics.tiny column last columns (work_with factors.old y.old w.old) }
 {
     let selected = trim(column + 1, last, w, numerics.epsilon);
-    let backward_steps = backward(
-        column + 1,
-        selected,
-        n,
-        columns,
-        stride,
-        l,
-        u,
-        y,
-        w,
-        numerics,
-    );
+    let backward_steps = backward(column + 1, selected, columns, factors, y, w, numerics);
     y[column] = w[selected];
-    let forward_steps = forward(column, selected, n, columns, stride, l, u, y, numerics);
+    let forward_steps = forward(column, selected, columns, factors, y, numerics);
     backward_steps + forward_steps
 }
 
@@ -72,26 +59,26 @@ pub fn restore(
 // It answers how many pair steps it made.
 pub fn drop_column(
     column: usize,
-    n: usize,
-    stride: usize,
-    l: &mut [f64],
-    u: &mut [f64],
+    factors: &mut Factors<'_>,
     y: &mut [f64],
     w: &mut [f64],
     numerics: Numerics,
 ) -> usize
-    requires { Room (ieee binary64) stride n l.old u.old × ((n ≤ length y.old) × ((n ≤ length w.old) × (column < n))) }
-    ensures { Updated (ieee binary64) stride n (state_of n (column_dropped (ieee binary64) numerics.epsilon numerics.tiny (n - 1)
-        (view_l (ieee binary64) stride l.old) (view_u (ieee binary64) stride u.old) column))
-        l.old u.old y.old [] w.old l.new u.new y.new [] w.new
-        × (result ≡ column_dropped_count (ieee binary64) numerics.epsilon numerics.tiny (n - 1)
-        (view_l (ieee binary64) stride l.old) (view_u (ieee binary64) stride u.old) column) }
+    requires { (factors.old.n ≤ length y.old) × ((factors.old.n ≤ length w.old) × (column < factors.old.n)) }
+    ensures updated { Updated (ieee binary64) factors.old.stride factors.old.n (state_of factors.old.n (column_dropped (ieee binary64) numerics.epsilon numerics.tiny (factors.old.n - 1)
+        (view_l (ieee binary64) factors.old.stride factors.old.l.now) (view_u (ieee binary64) factors.old.stride factors.old.u.now) column))
+        factors.old.l.now factors.old.u.now y.old [] w.old factors.new.l.now factors.new.u.now y.new [] w.new }
+    ensures counted { result ≡ column_dropped_count (ieee binary64) numerics.epsilon numerics.tiny (factors.old.n - 1)
+        (view_l (ieee binary64) factors.old.stride factors.old.l.now) (view_u (ieee binary64) factors.old.stride factors.old.u.now) column }
+    ensures same_storage { SameStorage factors.old factors.new }
 {
-    let last = n - 1;
+    let last = factors.n - 1;
     if column < last {
+        let stride = factors.stride;
+        let u = &mut *factors.u;
         read_u_column(u, last, stride, w);
         write_u_column(u, column, column + 1, stride, w);
-        return restore(column, last, n, last, stride, l, u, y, w, numerics);
+        return restore(column, last, last, factors, y, w, numerics);
     }
     0
 }

@@ -1,32 +1,42 @@
 // Where the factors stand in lent storage: its lengths for a capacity, and the places of L, of the packed triangle U and of the solve work.
 #![tactic(auto)]
 
-ghost use Rattle.std.specs.Prelude.{◌≡◌, ◌<◌, ◌≤◌, ◌*◌, ◌^◌};
+ghost use Rattle.std.specs.Prelude.{◌≡◌, ◌<◌, ◌≤◌, ◌*◌, ◌^◌, Some, codes};
 ghost use Rattle.storage.specs.Places.{l_length, u_length, l_index, u_index, work_index};
 ghost use Rattle.storage.specs.Lengths.{answer_of, required_lengths};
 
+use std::error::Error;
+use std::fmt;
+
 // How many doubles each buffer needs.
-#[derive(Clone, Copy)]
+#[derive(Clone, Copy, Debug, PartialEq, Eq)]
 pub struct StorageLengths {
     pub l: usize,
     pub u: usize,
 }
 
-#[derive(Clone, Copy)]
-pub enum RequiredLengths {
-    Lengths(StorageLengths),
-    SizeOverflow,
+// Why a capacity has no lengths: capacity + 1 or L's length exceeds usize.
+#[derive(Clone, Copy, Debug, PartialEq, Eq)]
+pub struct SizeOverflow;
+
+impl fmt::Display for SizeOverflow {
+    ghost output = { λ _. Some (codes "the lengths for the capacity exceed usize") };
+
+    fn fmt<W: fmt::Write>(&self, f: &mut fmt::Formatter<W>) -> fmt::Result {
+        f.write_str("the lengths for the capacity exceed usize")
+    }
 }
 
+impl Error for SizeOverflow {}
+
 // The lengths that a capacity needs: L's with the solve work at its end, and the packed triangle's. SizeOverflow where capacity + 1 or L's length exceeds usize.
-pub fn storage_lengths(capacity: usize) -> RequiredLengths
+#[tactic(auto, unfolding(crate::specs::Places::overflows))]
+pub fn storage_lengths(capacity: usize) -> Result<StorageLengths, SizeOverflow>
     ensures { answer_of result ≡ required_lengths capacity }
 {
-    if capacity >= 0x1_0000_0000 {
-        return RequiredLengths::SizeOverflow;
-    }
-    let l = capacity * (capacity + 1);
-    RequiredLengths::Lengths(StorageLengths { l, u: l / 2 })
+    let next = capacity.checked_add(1).ok_or(SizeOverflow)?;
+    let l = capacity.checked_mul(next).ok_or(SizeOverflow)?;
+    Ok(StorageLengths { l, u: l / 2 })
 }
 
 // The place of L(row, column) in storage of that capacity, before the solve work.

@@ -17,9 +17,7 @@ pub fn back_substitute(n: usize, stride: usize, u: &[f64], b: &mut [f64])
     requires { URoom (ieee binary64) stride n u.now × (n ≤ length b.old) }
     ensures { Written (ieee binary64) (λ i. i) n (back_substituted (ieee binary64) stride n u.now b.old) b.old b.new }
 {
-    let mut row = n;
-    while row > 0 {
-        row -= 1;
+    for row in (0..n).rev() {
         let diagonal = u_index(row, row, stride);
         let sum = dot(u, diagonal + 1, b, row + 1, n - (row + 1));
         b[row] = (b[row] - sum) / u[diagonal];

@@ -1,4 +1,4 @@
-// Removing a row and a column of the matrix, on lent slices. The workspaces' first n entries are scratch.
+// Removing a row and a column of the matrix, on factors in lent storage. The workspaces' first n entries are scratch.
 #![tactic(auto)]
 
 ghost use Rattle.std.specs.Prelude.{◌-◌, ◌≤◌, ◌<◌, length};
@@ -6,10 +6,11 @@ ghost use Rattle.std.specs.Float.{binary64};
 ghost use Rattle.numbers.specs.NumberForm.{ieee};
 ghost use Rattle.machine.specs.Calls as calls;
 ghost use Rattle.storage.specs.Updated.{CarriedOut};
-ghost use Rattle.buffers.specs.Performed.{Room};
+ghost use Rattle.factors.specs.SameStorage.{SameStorage};
 
 use backward::backward;
 use columns::{copy_l_column, read_l_column};
+use factors::Factors;
 use numerics::tolerance::Numerics;
 use stages::drop_column;
 
@@ -18,24 +19,25 @@ use stages::drop_column;
 pub fn remove(
     row: usize,
     column: usize,
-    n: usize,
-    stride: usize,
-    l: &mut [f64],
-    u: &mut [f64],
+    factors: &mut Factors<'_>,
     y: &mut [f64],
     z: &mut [f64],
     w: &mut [f64],
     numerics: Numerics,
 ) -> usize
-    requires { Room (ieee binary64) stride n l.old u.old × ((n ≤ length y.old) × ((n ≤ length z.old) × ((n ≤ length w.old) × ((row < n) × (column < n))))) }
-    ensures { CarriedOut (ieee binary64) numerics.epsilon numerics.tiny stride n n (calls.remove row column)
-        l.old u.old y.old z.old w.old
-        l.new u.new y.new z.new w.new result }
+    requires { (factors.old.n ≤ length y.old) × ((factors.old.n ≤ length z.old) × ((factors.old.n ≤ length w.old) × ((row < factors.old.n) × (column < factors.old.n)))) }
+    ensures carried_out { CarriedOut (ieee binary64) numerics.epsilon numerics.tiny factors.old.stride factors.old.n factors.old.n (calls.remove row column)
+        factors.old.l.now factors.old.u.now y.old z.old w.old
+        factors.new.l.now factors.new.u.now y.new z.new w.new result }
+    ensures same_storage { SameStorage factors.old factors.new }
 {
-    let column_steps = drop_column(column, n, stride, l, u, y, w, numerics);
+    let column_steps = drop_column(column, factors, y, w, numerics);
+    let n = factors.n;
+    let stride = factors.stride;
     let last = n - 1;
+    let l = &mut *factors.l;
     read_l_column(l, row, n, stride, w);
     copy_l_column(l, last, row, n, stride);
-    let row_steps = backward(0, last, n, last, stride, l, u, z, w, numerics);
+    let row_steps = backward(0, last, last, factors, z, w, numerics);
     column_steps + row_steps
 }

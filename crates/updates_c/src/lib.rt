@@ -9,7 +9,7 @@ ghost use Rattle.managed.specs.Instance.{state_value, instance};
 ghost use Rattle.answers.specs.Numbers.{index_after, moved_row_after, moved_column_after};
 ghost use Rattle.answers.specs.Returned.{Returned};
 
-use answers::{answer_number, named_index, remove_number};
+use answers::{answer_number, named_index};
 use api::{ColumnIndex, LuMod, RowIndex};
 
 // Appends a row and a column.
@@ -43,9 +43,8 @@ pub extern "C" fn lumod_push(
     *n = pushed.state.n;
     *counter = pushed.state.counter;
     *steps = pushed.steps;
-    let answer = pushed.answer;
-    *index = named_index(answer, *index);
-    answer_number(answer)
+    *index = named_index(pushed.answer, *index);
+    answer_number(pushed.answer)
 }
 
 // Replaces a row.
@@ -77,9 +76,8 @@ pub extern "C" fn lumod_replace_row(
     let row_replaced = state.replace_row(l, u, y, z, w, RowIndex(row), values);
     *counter = row_replaced.state.counter;
     *steps = row_replaced.steps;
-    let answer = row_replaced.answer;
-    *index = named_index(answer, *index);
-    answer_number(answer)
+    *index = named_index(row_replaced.answer, *index);
+    answer_number(row_replaced.answer)
 }
 
 // Replaces a column.
@@ -111,9 +109,8 @@ pub extern "C" fn lumod_replace_column(
     let column_replaced = state.replace_column(l, u, y, z, w, ColumnIndex(column), values);
     *counter = column_replaced.state.counter;
     *steps = column_replaced.steps;
-    let answer = column_replaced.answer;
-    *index = named_index(answer, *index);
-    answer_number(answer)
+    *index = named_index(column_replaced.answer, *index);
+    answer_number(column_replaced.answer)
 }
 
 // Removes a row and a column.
@@ -147,8 +144,7 @@ pub extern "C" fn lumod_remove(
     *n = removed.state.n;
     *counter = removed.state.counter;
     *steps = removed.steps;
-    let answer = removed.answer;
-    *moved_row = answers::moved_row(answer, *moved_row);
-    *moved_column = answers::moved_column(answer, *moved_column);
-    remove_number(answer)
+    *moved_row = answers::moved_row(removed.answer, *moved_row);
+    *moved_column = answers::moved_column(removed.answer, *moved_column);
+    answer_number(removed.answer)
 }

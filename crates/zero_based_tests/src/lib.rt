@@ -1,47 +1,46 @@
-// What the zero-based calls refuse.
+// What the zero-based calls refuse, and the update that the numbers of LUmod name.
 #![tactic(auto)]
 
-ghost use Rattle.std.specs.Prelude.{◌≡◌, ◌^◌, ◌<◌};
-ghost use Rattle.zero_based_tests.specs.Refusals.{index_outside, passed_over, update_lacks_room, product_lacks_room, solve_lacks_room};
+ghost use Rattle.std.specs.Prelude.{◌≡◌, ◌^◌, ◌<◌, IfSome, if◌then◌else◌};
+ghost use Rattle.host_numbers.specs.Numbers.{size_of};
+ghost use Rattle.zero_based_tests.specs.Refusals.{passed_over, update_lacks_room, product_lacks_room, solve_lacks_room};
+ghost use Rattle.zero_based_tests.specs.Update.{update_of, InRange};
 
-use host_numbers::outside;
+use host_numbers::index_below;
 
-// Modes are 1 to this.
-const LAST_MODE: usize = 4;
-
-// Whether a mode is `own` or 4, the modes that use the index, and the index is outside.
-pub fn index_outside(mode: usize, own: usize, index: i32, n: usize) -> bool
-    ensures { result ≡ index_outside mode own index n }
-{
-    if mode == own {
-        return outside(index, n);
-    }
-    if mode == 4 {
-        return outside(index, n);
-    }
-    false
+// An update of the factors, with the indices that it uses.
+#[derive(Clone, Copy, Debug, PartialEq, Eq)]
+pub enum Update {
+    Push,
+    ReplaceColumn(usize),
+    ReplaceRow(usize),
+    Remove { row: usize, column: usize },
 }
 
-// What LUmod refuses with 11, for a mode and a dimension as sizes.
-pub fn passed_over(mode: usize, n: usize, krow: i32, kcol: i32) -> bool
-    ensures { result ≡ passed_over mode n krow kcol }
+// The update that a mode and its indices name for a dimension as a size, none where LUmod refuses with 11.
+#[tactic(auto, unfolding(crate::specs::Refusals::passed_over))]
+pub fn update_named(mode: i32, n: usize, krow: i32, kcol: i32) -> Option<Update>
+    ensures named { result ≡ (if passed_over (size_of mode) n krow kcol then None
+        else Some (update_of (size_of mode) (size_of krow) (size_of kcol))) }
+    ensures in_range { IfSome result (λ update. InRange update n) }
 {
     if n == 0 {
-        return true;
+        return None;
     }
-    if mode < 1 {
-        return true;
+    match mode {
+        1 => Some(Update::Push),
+        2 => Some(Update::ReplaceColumn(index_below(kcol, n)?)),
+        3 => Some(Update::ReplaceRow(index_below(krow, n)?)),
+        4 => Some(Update::Remove {
+            row: index_below(krow, n)?,
+            column: index_below(kcol, n)?,
+        }),
+        _ => None,
     }
-    if mode > LAST_MODE {
-        return true;
-    }
-    if index_outside(mode, 3, krow, n) {
-        return true;
-    }
-    index_outside(mode, 2, kcol, n)
 }
 
 // What LUmod refuses with 12, for the lengths of its buffers.
+#[tactic(auto, unfolding(crate::specs::Refusals::update_lacks_room))]
 pub fn update_lacks_room(
     n: usize,
     stride: usize,
@@ -54,51 +53,23 @@ pub fn update_lacks_room(
     requires { stride < 2 ^ 31 }
     ensures { result ≡ update_lacks_room n stride l u y z w }
 {
-    if n > stride {
-        return true;
-    }
-    if l < stride * stride {
-        return true;
-    }
-    if u < stride * (stride + 1) / 2 {
-        return true;
-    }
-    if y < n {
-        return true;
-    }
-    if z < n {
-        return true;
-    }
-    w < n
+    n > stride || l < stride * stride || u < stride * (stride + 1) / 2 || y < n || z < n || w < n
 }
 
 // What Lprod refuses with 12.
+#[tactic(auto, unfolding(crate::specs::Refusals::product_lacks_room))]
 pub fn product_lacks_room(n: usize, stride: usize, l: usize, y: usize, z: usize) -> bool
     requires { stride < 2 ^ 31 }
     ensures { result ≡ product_lacks_room n stride l y z }
 {
-    if n > stride {
-        return true;
-    }
-    if l < stride * stride {
-        return true;
-    }
-    if y < n {
-        return true;
-    }
-    z < n
+    n > stride || l < stride * stride || y < n || z < n
 }
 
 // What Usolve refuses with 12.
+#[tactic(auto, unfolding(crate::specs::Refusals::solve_lacks_room))]
 pub fn solve_lacks_room(n: usize, stride: usize, u: usize, y: usize) -> bool
     requires { stride < 2 ^ 31 }
     ensures { result ≡ solve_lacks_room n stride u y }
 {
-    if n > stride {
-        return true;
-    }
-    if u < stride * (stride + 1) / 2 {
-        return true;
-    }
-    y < n
+    n > stride || u < stride * (stride + 1) / 2 || y < n
 }

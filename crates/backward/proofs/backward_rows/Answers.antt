@@ -5,7 +5,7 @@ use lib.Ieee.{binary64}
 use Rattle.numbers.specs.NumberForm.{NumberForm, ieee}
 use Rattle.machine.specs.Backward.{backward_row, backward_rows}
 use Rattle.machine.proofs.Backward.{backward_row_same}
-use Rattle.buffers.proofs.Buffers.{performed_none, performed_then, performed_as}
+use Rattle.factors.proofs.Steps.{step_none, step_then, step_as, step_below}
 use Rattle.backward.proofs.Rows.{row_counted_le, rows_counted_le, backward_rows_none, backward_rows_more, backward_count_none, backward_count_more}
 use Rattle.backward.proofs.backward_rows.Goals as goal
 
@@ -13,28 +13,36 @@ abbrev N : NumberForm
 N = ieee binary64
 
 pub loop-row-init : goal.loop-row-init
-loop-row-init c = (omega arith, (omega arith, (performed_as N (λ S. S) (backward_rows_none N _ _ _ _ _) (performed_none N), backward_count_none N _ _ _ _ _)))
+loop-row-init c = record {
+  first = omega arith;
+  last = omega arith;
+  performed = step_as (λ S. S) (backward_rows_none N _ _ _ _ _) step_none;
+  counted = backward_count_none N _ _ _ _ _;
+}
 
 pub overflow_add-steps : goal.overflow_add-steps
 overflow_add-steps c =
     let a = c.args in
-    let p = c.requires in
-    let k = rows_counted_le N a.numerics.epsilon a.numerics.tiny _ _ _ _ c.loop-row.invariant.1.1.1 in
-    let r = row_counted_le N a.numerics.epsilon a.numerics.tiny _ a.columns _ _ c.backward_row-steps.ensures.1 in
+    let k = rows_counted_le N a.numerics.epsilon a.numerics.tiny _ _ _ _ c.loop-row.invariant.counted in
+    let r = row_counted_le N a.numerics.epsilon a.numerics.tiny _ a.columns _ _ c.backward_row-steps.ensures.counted in
     omega (arith, k, r)
 
 pub loop-row-preserved : goal.loop-row-preserved
-loop-row-preserved c = (
-  omega arith,
-  (
-    omega arith,
-    (
-      performed_as N
-          (λ S. backward_row N c.args.numerics.epsilon c.args.numerics.tiny c.args.selected c.args.columns (c.loop-row.row - 1) (backward_rows N c.args.numerics.epsilon c.args.numerics.tiny c.args.selected c.args.columns (c.args.selected - c.loop-row.row) S))
-          (backward_rows_more N c.args.numerics.epsilon c.args.numerics.tiny c.args.selected c.args.columns c.loop-row.row _ (omega arith) c.loop-row.invariant.1.0)
-          (performed_then N c.loop-row.invariant.1.1.0 c.backward_row-steps.ensures.0 (omega arith)
-          (λ S R. backward_row_same N c.args.numerics.epsilon c.args.numerics.tiny c.args.n c.args.columns (omega arith) c.args.selected (c.loop-row.row - 1) c.loop-row.row (omega arith) (omega arith) (omega arith))),
-      backward_count_more N c.args.numerics.epsilon c.args.numerics.tiny c.args.selected c.args.columns c.args.n c.loop-row.row _ (omega arith) (omega arith) c.loop-row.invariant.1.0 (omega arith) c.loop-row.invariant.1.1.1 c.loop-row.invariant.1.1.0.agree c.backward_row-steps.ensures.1,
-    ),
-  ),
-)
+loop-row-preserved c =
+    let a = c.args in
+    let row = c.loop-row.row in
+    let h = c.loop-row.invariant in
+    let s = h.performed.same_storage in
+    let e = c.backward_row-steps.ensures in record {
+      first = omega arith;
+      last = omega arith;
+      performed =
+          step_as
+          (λ S. backward_row N a.numerics.epsilon a.numerics.tiny a.selected a.columns (row - 1) (backward_rows N a.numerics.epsilon a.numerics.tiny a.selected a.columns (a.selected - row) S))
+          (backward_rows_more N a.numerics.epsilon a.numerics.tiny a.selected a.columns row _ (omega arith) h.last)
+          (step_then h.performed (step_below s.dimension e.performed) (omega arith)
+          (λ S R. backward_row_same N a.numerics.epsilon a.numerics.tiny a.factors.now.n a.columns (omega arith) a.selected (row - 1) row (omega arith) (omega arith) (omega arith)));
+      counted =
+          backward_count_more N a.numerics.epsilon a.numerics.tiny a.selected a.columns a.factors.now.n row _ (omega arith) (omega arith) h.last (omega arith) h.counted h.performed.performed.agree
+          (rw s.stride at e.counted);
+    }

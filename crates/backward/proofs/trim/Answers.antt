@@ -1,6 +1,6 @@
 -- `trim`: an entry a turn.
-use mathlib.Core.Path.{◌∙◌}
-use Prim.Native.Nat.{◌<◌}
+use mathlib.Core.Path.{◌≡◌, ◌∙◌}
+use Prim.Native.Nat.{◌-◌, ◌<◌}
 use native.Mathlib.Omega.{arith}
 use lib.Ieee.{binary64}
 use Rattle.numbers.specs.NumberForm.{NumberForm, ieee}
@@ -12,11 +12,19 @@ N = ieee binary64
 
 pub loop-selected-preserved : goal.loop-selected-preserved
 loop-selected-preserved c =
-    let h : c.args.first < c.loop-selected.selected = omega arith in (omega arith, (omega arith, trim_more N _ _ _ _ h c.abs.ensures c.if-abs-epsilon.true ∙ c.loop-selected.invariant.1.1))
+    let h : c.args.first < c.loop-selected.selected = omega arith in (omega arith, (omega arith, trim_more N _ _ _ _ h c.abs.ensures c.if-not-negligible.false ∙ c.loop-selected.invariant.1.1))
 
-pub returns-else-abs-epsilon : goal.returns-else-abs-epsilon
-returns-else-abs-epsilon c =
-    let h : c.args.first < c.loop-selected.selected = omega arith in (trim_ends N _ _ _ _ h c.abs.ensures c.if-abs-epsilon.false ∙ c.loop-selected.invariant.1.1, (omega arith, omega arith))
+pub returns-then-not-negligible : goal.returns-then-not-negligible
+returns-then-not-negligible c =
+    let h : c.args.first < c.loop-selected.selected = omega arith in (trim_ends N _ _ _ _ h c.abs.ensures c.if-not-negligible.true ∙ c.loop-selected.invariant.1.1, (omega arith, omega arith))
 
-pub returns-after-loop-selected : goal.returns-after-loop-selected
-returns-after-loop-selected c = (trim_at_start N _ _ _ _ (omega arith) ∙ c.loop-selected.invariant.1.1, (omega arith, omega arith))
+pub returns-else-not-negligible : goal.returns-else-not-negligible
+returns-else-not-negligible c =
+    let h : c.args.first < c.loop-selected.selected = omega arith in
+    let e : c.args.first ≡ c.loop-selected.selected - 1 = omega arith in
+    (e ∙ trim_at_start N _ _ _ _ (omega arith) ∙ trim_more N _ _ _ _ h c.abs.ensures c.if-not-negligible.false ∙ c.loop-selected.invariant.1.1, (omega arith, omega arith))
+
+pub returns : goal.returns
+returns c =
+    let e : c.args.first ≡ c.loop-selected.selected = omega arith in
+    (e ∙ trim_at_start N _ _ _ _ (omega arith) ∙ c.loop-selected.invariant.1.1, (omega arith, omega arith))

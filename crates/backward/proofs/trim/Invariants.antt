@@ -12,6 +12,3 @@ N = ieee binary64
 
 abbrev pub invariant-loop-selected : goal.invariant-loop-selected
 invariant-loop-selected l = (l.first ≤ l.selected) × ((l.selected ≤ l.last) × (trim N l.epsilon l.first l.selected (entry N l.v) ≡ trim N l.epsilon l.first l.last (entry N l.v)))
-
-abbrev pub decreases-loop-selected : goal.decreases-loop-selected
-decreases-loop-selected l = l.selected

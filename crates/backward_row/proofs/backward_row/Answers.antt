@@ -8,7 +8,8 @@ use Rattle.numbers.specs.NumberForm.{NumberForm, ieee}
 use Rattle.machine.specs.Backward.{clear_dense, backward_transform}
 use Rattle.machine.proofs.Backward.{backward_transform_same}
 use Rattle.ranges.proofs.RowParts.{part_fits}
-use Rattle.buffers.proofs.Buffers.{performed_then, performed_as, performed_from}
+use Rattle.buffers.proofs.Buffers.{performed_then, performed_from}
+use Rattle.factors.proofs.Steps.{same_storage_refl, step_as, step_from}
 use Rattle.backward_row.proofs.RowEliminated.{dense_cleared, backward_transformed, backward_skips_lem, backward_acts, backward_skips_counted, backward_acts_counted}
 use Rattle.backward_row.proofs.backward_row.Goals as goal
 
@@ -18,35 +19,47 @@ N = ieee binary64
 pub returns-then-skips : goal.returns-then-skips
 returns-then-skips c =
     let a = c.args in
-    let p = c.requires in (
-      performed_as N (clear_dense N a.row)
-          (backward_skips_lem N a.numerics.epsilon a.numerics.tiny a.stride a.row a.selected a.columns a.l.now a.u.now a.y.now a.v.now c.abs-2.ensures c.abs.ensures c.if-skips.true)
-          (performed_from N (omega arith) (dense_cleared N a.stride a.n a.columns a.row a.n _ _ _ _ (omega arith) (omega arith) (omega arith))),
-      backward_skips_counted N a.numerics.epsilon a.numerics.tiny a.stride a.row a.selected a.columns a.l.now a.u.now a.y.now a.v.now c.abs-2.ensures c.abs.ensures c.if-skips.true,
-    )
+    let f = a.factors.now in
+    let p = c.requires in record {
+      performed =
+          step_as (clear_dense N a.row)
+          (backward_skips_lem N a.numerics.epsilon a.numerics.tiny f.stride a.row a.selected a.columns f.l.now f.u.now a.y.now a.v.now c.abs-2.ensures c.abs.ensures c.if-skips.true)
+          (step_from (omega arith) (record {
+            performed = dense_cleared N f.stride f.n a.columns a.row f.n _ _ _ _ (omega arith) (omega arith) (omega arith);
+            same_storage = same_storage_refl;
+          }));
+      counted = backward_skips_counted N a.numerics.epsilon a.numerics.tiny f.stride a.row a.selected a.columns f.l.now f.u.now a.y.now a.v.now c.abs-2.ensures c.abs.ensures c.if-skips.true;
+    }
 
 pub transform_slices-requires : goal.transform_slices-requires
 transform_slices-requires c =
     let a = c.args in
+    let f = a.factors.now in
     let p = c.requires in (
       simp length-set (omega arith),
-      part_fits a.stride a.row a.row (a.columns - a.row) c.u_index-diagonal.result (omega arith) (omega arith) c.u_index-diagonal.ensures.0 (length a.u.now) (omega arith) (omega arith),
+      part_fits f.stride a.row a.row (a.columns - a.row) c.u_index-diagonal.result (omega arith) (omega arith) c.u_index-diagonal.ensures.0 (length f.u.now) (omega arith) (omega arith),
     )
 
 pub returns : goal.returns
 returns c =
-    let transform-slices = c.transform_slices in
+    let transformed = c.transform_slices in
     let a = c.args in
+    let f = a.factors.now in
     let p = c.requires in
     let d = c.u_index-diagonal in
-    let s = c.elementary-transform in (
-      performed_as N (λ S. backward_transform N a.selected a.columns a.row _ (clear_dense N a.row S))
-          (backward_acts N a.numerics.epsilon a.numerics.tiny a.stride a.row a.selected a.columns a.l.now a.u.now a.y.now a.v.now c.abs-2.ensures c.abs.ensures c.if-skips.false s.ensures.step)
-          (performed_then N (performed_from N (omega arith) (dense_cleared N a.stride a.n a.columns a.row a.n _ _ _ _ (omega arith) (omega arith) (omega arith)))
-          (backward_transformed N a.stride a.n a.columns a.row a.selected d.result _ _ _ _ _ _ _ _
-          (omega arith) (omega arith) (omega arith) (omega arith) (omega arith) d.ensures.0 (omega arith) s.ensures.cleared
-          transform-slices.ensures.0 transform-slices.ensures.1 c.transform_rows.ensures)
-          (omega arith)
-          (λ S R. backward_transform_same N a.numerics.epsilon a.numerics.tiny a.n a.columns (omega arith) a.selected a.row refl (omega arith) (omega arith))),
-      backward_acts_counted N a.numerics.epsilon a.numerics.tiny a.stride a.row a.selected a.columns a.l.now a.u.now a.y.now a.v.now c.abs-2.ensures c.abs.ensures c.if-skips.false,
-    )
+    let s = c.elementary-transform in record {
+      performed =
+          step_as (λ S. backward_transform N a.selected a.columns a.row _ (clear_dense N a.row S))
+          (backward_acts N a.numerics.epsilon a.numerics.tiny f.stride a.row a.selected a.columns f.l.now f.u.now a.y.now a.v.now c.abs-2.ensures c.abs.ensures c.if-skips.false s.ensures.step)
+          (record {
+            performed =
+                performed_then N (performed_from N (omega arith) (dense_cleared N f.stride f.n a.columns a.row f.n _ _ _ _ (omega arith) (omega arith) (omega arith)))
+                (backward_transformed N f.stride f.n a.columns a.row a.selected d.result _ _ _ _ _ _ _ _
+                (omega arith) (omega arith) (omega arith) (omega arith) (omega arith) d.ensures.0 (omega arith) s.ensures.cleared
+                transformed.ensures.0 transformed.ensures.1 c.transform_rows.ensures)
+                (omega arith)
+                (λ S R. backward_transform_same N a.numerics.epsilon a.numerics.tiny f.n a.columns (omega arith) a.selected a.row refl (omega arith) (omega arith));
+            same_storage = record { dimension = refl; stride = refl; l = refl; u = refl };
+          });
+      counted = backward_acts_counted N a.numerics.epsilon a.numerics.tiny f.stride a.row a.selected a.columns f.l.now f.u.now a.y.now a.v.now c.abs-2.ensures c.abs.ensures c.if-skips.false;
+    }

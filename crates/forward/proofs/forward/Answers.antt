@@ -1,5 +1,5 @@
 -- `forward`: row after row, and then the copy.
-use mathlib.Core.Path.{◌≡◌}
+use mathlib.Core.Path.{◌≡◌, refl}
 use Prim.Native.Nat.{◌-◌}
 use native.Mathlib.Omega.{arith}
 use lib.Ieee.{binary64}
@@ -8,7 +8,7 @@ use Rattle.machine.specs.Forward.{forward_row, forward_rows, forward}
 use Rattle.machine.specs.Counts.{forward_count}
 use Rattle.machine.proofs.Forward.{forward_row_same, copy_dense_same}
 use Rattle.ranges.proofs.RowParts.{part_fits}
-use Rattle.buffers.proofs.Buffers.{performed_none, performed_then, performed_as}
+use Rattle.factors.proofs.Steps.{step_none, step_then, step_as}
 use Rattle.forward.proofs.Rows.{row_counted_le, rows_counted_le, forward_rows_none, forward_rows_more, forward_count_none, forward_count_more, dense_copied}
 use Rattle.forward.proofs.forward.Goals as goal
 
@@ -16,50 +16,64 @@ abbrev N : NumberForm
 N = ieee binary64
 
 pub loop-row-init : goal.loop-row-init
-loop-row-init c = (omega arith, (omega arith, (performed_as N (λ S. S) (forward_rows_none N _ _ _ _ _ _) (performed_none N), forward_count_none N _ _ _ _ _ _)))
+loop-row-init c = record {
+  first = omega arith;
+  last = omega arith;
+  performed = step_as (λ S. S) (forward_rows_none N _ _ _ _ _ _) step_none;
+  counted = forward_count_none N _ _ _ _ _ _;
+}
 
 pub overflow_add-steps : goal.overflow_add-steps
 overflow_add-steps c =
     let a = c.args in
-    let p = c.requires in
-    let k = rows_counted_le N a.numerics.epsilon a.numerics.tiny _ _ _ _ _ c.loop-row.invariant.1.1.1 in
-    let r = row_counted_le N a.numerics.epsilon a.numerics.tiny a.first a.last a.columns _ _ c.forward_row-steps.ensures.1 in
+    let k = rows_counted_le N a.numerics.epsilon a.numerics.tiny _ _ _ _ _ c.loop-row.invariant.counted in
+    let r = row_counted_le N a.numerics.epsilon a.numerics.tiny a.first a.last a.columns _ _ c.forward_row-steps.ensures.counted in
     omega (arith, k, r)
 
 pub loop-row-preserved : goal.loop-row-preserved
 loop-row-preserved c =
-    let h = c.loop-row.invariant in (
-      omega arith,
-      (
-        omega arith,
-        (
-          performed_as N
-              (λ S. forward_row N c.args.numerics.epsilon c.args.numerics.tiny c.args.last c.args.columns c.loop-row.row (forward_rows N c.args.numerics.epsilon c.args.numerics.tiny c.args.first c.args.last c.args.columns (c.loop-row.row - c.args.first) S))
-              (forward_rows_more N c.args.numerics.epsilon c.args.numerics.tiny c.args.first c.args.last c.args.columns c.loop-row.row _ h.0)
-              (performed_then N h.1.1.0 c.forward_row-steps.ensures.0 (omega arith)
-              (λ S R. forward_row_same N c.args.numerics.epsilon c.args.numerics.tiny c.args.n c.args.columns 0 (omega arith) c.args.last c.loop-row.row 0 (omega arith) (omega arith) (omega arith))),
-          forward_count_more N c.args.numerics.epsilon c.args.numerics.tiny c.args.first c.args.last c.args.columns c.args.n c.loop-row.row _ (omega arith) h.0 (omega arith) h.1.1.1 h.1.1.0.agree c.forward_row-steps.ensures.1,
-        ),
-      ),
-    )
+    let a = c.args in
+    let h = c.loop-row.invariant in
+    let e = c.forward_row-steps.ensures in record {
+      first = omega arith;
+      last = omega arith;
+      performed =
+          step_as
+          (λ S. forward_row N a.numerics.epsilon a.numerics.tiny a.last a.columns c.loop-row.row (forward_rows N a.numerics.epsilon a.numerics.tiny a.first a.last a.columns (c.loop-row.row - a.first) S))
+          (forward_rows_more N a.numerics.epsilon a.numerics.tiny a.first a.last a.columns c.loop-row.row _ h.first)
+          (step_then h.performed e.performed (omega arith)
+          (λ S R. forward_row_same N a.numerics.epsilon a.numerics.tiny a.factors.now.n a.columns 0 (omega arith) a.last c.loop-row.row 0 (omega arith) (omega arith) (omega arith)));
+      counted =
+          forward_count_more N a.numerics.epsilon a.numerics.tiny a.first a.last a.columns a.factors.now.n c.loop-row.row _ (omega arith) h.first (omega arith) h.counted h.performed.performed.agree
+          (rw h.performed.same_storage.stride at e.counted);
+    }
 
 pub copy-requires : goal.copy-requires
 copy-requires c =
     let a = c.args in
-    let p = c.requires in
-    let e = c.loop-row.invariant.1.1.0.frame.u_kept.long in
-    let f = c.loop-row.invariant.1.1.0.frame.y_kept.long in
-    (part_fits a.stride a.last a.last (a.columns - a.last) c.u_index-diagonal.result (omega arith) (omega arith) c.u_index-diagonal.ensures.0 _ (omega arith) (omega arith), omega arith)
+    let f = c.loop-row.factors in
+    let s = c.loop-row.invariant.performed.same_storage in
+    let e = c.loop-row.invariant.performed.performed.frame.y_kept.long in
+    (part_fits f.stride a.last a.last (a.columns - a.last) c.u_index-diagonal.result (omega arith) (omega arith) c.u_index-diagonal.ensures.0 _ (omega arith) (omega arith), omega arith)
 
-pub returns : goal.returns
-unfolding forward forward_count
-returns c =
+pub returns-clause-performed : goal.returns-clause-performed
+unfolding forward
+returns-clause-performed c =
     let a = c.args in
-    let p = c.requires in
-    let e : c.loop-row.row ≡ a.last = omega arith in (
-      performed_then N (rw e at c.loop-row.invariant.1.1.0)
-          (dense_copied N a.stride a.n a.columns a.last c.u_index-diagonal.result _ _ _ (omega arith) (omega arith) (omega arith) c.u_index-diagonal.ensures.0 c.copy.ensures)
-          (omega arith)
-          (λ S R. copy_dense_same N a.numerics.epsilon a.numerics.tiny a.n a.columns 0 (omega arith) a.last 0 (omega arith)),
-      rw e at c.loop-row.invariant.1.1.1,
-    )
+    let f = c.loop-row.factors in
+    let h = c.loop-row.invariant in
+    let s = h.performed.same_storage in
+    let e : c.loop-row.row ≡ a.last = omega arith in
+    step_then (rw e at h.performed)
+    (record {
+      performed = dense_copied N f.stride f.n a.columns a.last c.u_index-diagonal.result _ _ _ (omega arith) (omega arith) (omega arith) c.u_index-diagonal.ensures.0 c.copy.ensures;
+      same_storage = record { dimension = refl; stride = refl; l = refl; u = refl };
+    })
+    (omega arith)
+    (λ S R. copy_dense_same N a.numerics.epsilon a.numerics.tiny a.factors.now.n a.columns 0 (omega arith) a.last 0 (omega arith))
+
+pub returns-clause-counted : goal.returns-clause-counted
+unfolding forward_count
+returns-clause-counted c =
+    let e : c.loop-row.row ≡ c.args.last = omega arith in
+    rw e at c.loop-row.invariant.counted

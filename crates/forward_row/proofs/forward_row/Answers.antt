@@ -3,10 +3,11 @@ use Prim.Native.Nat.{◌-◌}
 use native.Mathlib.Omega.{arith}
 use lib.Ieee.{binary64}
 use lib.ListN.{length, length-set}
+use mathlib.Core.Path.{refl}
 use Rattle.numbers.specs.NumberForm.{NumberForm, ieee}
 use Rattle.machine.specs.Forward.{forward_transform}
 use Rattle.ranges.proofs.RowParts.{part_fits}
-use Rattle.buffers.proofs.Buffers.{performed_none, performed_as}
+use Rattle.factors.proofs.Steps.{step_none, step_as}
 use Rattle.forward_row.proofs.RowEliminated.{forward_transformed, forward_acts_lem, forward_passes, forward_acts_counted, forward_passes_counted}
 use Rattle.forward_row.proofs.forward_row.Goals as goal
 
@@ -16,31 +17,40 @@ N = ieee binary64
 pub transform_slices-requires : goal.transform_slices-requires
 transform_slices-requires c =
     let a = c.args in
+    let f = a.factors.now in
     let d = c.u_index-diagonal in
-    let h = part_fits a.stride a.row a.row (a.columns - a.row) d.result (omega arith) (omega arith) d.ensures.0 (length a.u.now) (omega arith) (omega arith) in
+    let h = part_fits f.stride a.row a.row (a.columns - a.row) d.result (omega arith) (omega arith) d.ensures.0 (length f.u.now) (omega arith) (omega arith) in
     simp length-set (omega arith)
 
 pub returns-then-acts : goal.returns-then-acts
 returns-then-acts c =
-    let transform-slices = c.transform_slices in
     let a = c.args in
+    let f = a.factors.now in
     let p = c.requires in
     let d = c.u_index-diagonal in
-    let s = c.elementary-transform in (
-      performed_as N (forward_transform N a.last a.columns a.row _)
-          (forward_acts_lem N a.numerics.epsilon a.numerics.tiny a.stride a.row a.last a.columns d.result a.l.now a.u.now a.y.now d.ensures.0 c.abs-2.ensures c.abs.ensures c.if-acts.true s.ensures.step)
-          (forward_transformed N a.stride a.n a.columns a.row a.last d.result a.l.now a.u.now a.y.now _ _ _ _
-          (omega arith) (omega arith) (omega arith) (omega arith) (omega arith) d.ensures.0 (omega arith) (omega arith) s.ensures.cleared
-          transform-slices.ensures.0 transform-slices.ensures.1 c.transform_rows.ensures),
-      forward_acts_counted N a.numerics.epsilon a.numerics.tiny a.stride a.row a.last a.columns d.result a.l.now a.u.now a.y.now d.ensures.0 c.abs-2.ensures c.abs.ensures c.if-acts.true,
-    )
+    let s = c.elementary-transform in
+    let transformed = c.transform_slices in record {
+      performed =
+          step_as (forward_transform N a.last a.columns a.row _)
+          (forward_acts_lem N a.numerics.epsilon a.numerics.tiny f.stride a.row a.last a.columns d.result f.l.now f.u.now a.y.now d.ensures.0 c.abs-2.ensures c.abs.ensures c.if-acts.true s.ensures.step)
+          (record {
+            performed =
+                forward_transformed N f.stride f.n a.columns a.row a.last d.result f.l.now f.u.now a.y.now _ _ _ _
+                (omega arith) (omega arith) (omega arith) (omega arith) (omega arith) d.ensures.0 (omega arith) (omega arith) s.ensures.cleared
+                transformed.ensures.0 transformed.ensures.1 c.transform_rows.ensures;
+            same_storage = record { dimension = refl; stride = refl; l = refl; u = refl };
+          });
+      counted = forward_acts_counted N a.numerics.epsilon a.numerics.tiny f.stride a.row a.last a.columns d.result f.l.now f.u.now a.y.now d.ensures.0 c.abs-2.ensures c.abs.ensures c.if-acts.true;
+    }
 
 pub returns : goal.returns
 returns c =
     let a = c.args in
-    let d = c.u_index-diagonal in (
-      performed_as N (λ S. S)
-          (forward_passes N a.numerics.epsilon a.numerics.tiny a.stride a.row a.last a.columns d.result a.l.now a.u.now a.y.now d.ensures.0 c.abs-2.ensures c.abs.ensures c.if-acts.false)
-          (performed_none N),
-      forward_passes_counted N a.numerics.epsilon a.numerics.tiny a.stride a.row a.last a.columns d.result a.l.now a.u.now a.y.now d.ensures.0 c.abs-2.ensures c.abs.ensures c.if-acts.false,
-    )
+    let f = a.factors.now in
+    let d = c.u_index-diagonal in record {
+      performed =
+          step_as (λ S. S)
+          (forward_passes N a.numerics.epsilon a.numerics.tiny f.stride a.row a.last a.columns d.result f.l.now f.u.now a.y.now d.ensures.0 c.abs-2.ensures c.abs.ensures c.if-acts.false)
+          step_none;
+      counted = forward_passes_counted N a.numerics.epsilon a.numerics.tiny f.stride a.row a.last a.columns d.result f.l.now f.u.now a.y.now d.ensures.0 c.abs-2.ensures c.abs.ensures c.if-acts.false;
+    }

@@ -1,31 +1,32 @@
 -- `solve`: refused, or carried out.
-use mathlib.Core.Path.{◌∙◌}
+use mathlib.Core.Path.{sym, ◌∙◌}
 use lib.Ieee.{binary64}
 use native.Mathlib.Omega.{arith}
+use Rattle.std.proofs.lemmas.Result.{err_from_is_err_and}
 use Rattle.numbers.specs.NumberForm.{NumberForm, ieee}
 use Rattle.numbers.specs.Tolerances.{managed_epsilon, managed_tiny}
 use Rattle.machine.specs.Calls as calls
 use Rattle.managed.specs.Instance.{state_value, lent_to_solve}
 use Rattle.managed.proofs.Outcomes.{outcome_refused}
 use Rattle.managed.proofs.Tested.{solve_tested, solve_passed}
-use Rattle.refusals.proofs.Chain.{passed_none, refused_some}
 use Rattle.managed_solves.proofs.Solved.{solve_outcome}
 use Rattle.managed_solves.proofs.solve.Goals as goal
 
 abbrev N : NumberForm
 N = ieee binary64
 
-pub returns-in-Refused : goal.returns-in-Refused
-returns-in-Refused c counter =
+pub returns-in_err-test_solve : goal.returns-in_err-test_solve
+returns-in_err-test_solve c counter =
     let a = c.args in
     let v = state_value a.n a.capacity counter in
-    rw c.in-Refused.is
+    let p = err_from_is_err_and c.from_residual.result c.from_residual.ensures.1 in
+    rw (p.1, p.2)
     (outcome_refused N (managed_epsilon binary64) (managed_tiny binary64) (calls.solve a.rhs.now) (lent_to_solve v a.l.now a.u.now)
-    (solve_tested N v a.l.now a.u.now a.rhs.now ∙ refused_some c.test_solve-test.ensures _ c.in-Refused.is))
+    (solve_tested N v a.l.now a.u.now a.rhs.now ∙ sym c.in_err-test_solve.ensures))
 
 pub solve-requires : goal.solve-requires
 solve-requires c =
-    let r = solve_passed _ _ _ _ _ _ (passed_none c.test_solve-test.ensures c.in_default.is) in
+    let r = solve_passed _ _ _ _ _ _ (sym c.in_ok-test_solve.ensures) in
     let p = r.0 in
     (omega (arith, p.dimension), (p.capacity, (p.L, (p.U, omega (arith, r.1)))))
 
@@ -33,8 +34,7 @@ pub returns : goal.returns
 returns c counter =
     let a = c.args in
     let v = state_value a.n a.capacity counter in
-    let none-refused = passed_none c.test_solve-test.ensures c.in_default.is in
-    let r = solve_passed _ _ _ _ _ _ none-refused in
-    rw c.in_default.is
-    (solve_outcome N (managed_epsilon binary64) (managed_tiny binary64) v a.l.now a.u.now a.rhs.now c.solve.ensures.1 r.0.dimension r.1
-    (solve_tested N v a.l.now a.u.now a.rhs.now ∙ none-refused) c.solve.ensures.0)
+    let passed = sym c.in_ok-test_solve.ensures in
+    let r = solve_passed _ _ _ _ _ _ passed in
+    solve_outcome N (managed_epsilon binary64) (managed_tiny binary64) v a.l.now a.u.now a.rhs.now c.solve.ensures.1 r.0.dimension r.1
+    (solve_tested N v a.l.now a.u.now a.rhs.now ∙ passed) c.solve.ensures.0

@@ -1,4 +1,6 @@
 -- `products_by_fours`: four entries a turn.
+use mathlib.Core.Path.{◌≡◌}
+use Prim.Native.Nat.{◌+◌, ◌-◌, ◌*◌, ◌%◌}
 use native.Mathlib.Omega.{arith}
 use lib.Ieee.{binary64}
 use Rattle.numbers.specs.NumberForm.{NumberForm, ieee}
@@ -8,5 +10,9 @@ use Rattle.products.proofs.products_by_fours.Goals as goal
 abbrev N : NumberForm
 N = ieee binary64
 
-pub loop-i-preserved : goal.loop-i-preserved
-loop-i-preserved c = (omega arith, written_four N c.loop-i.i c.loop-i.invariant.1 c.four_products.ensures)
+pub loop-four-preserved : goal.loop-four-preserved
+loop-four-preserved c =
+    let e : 4 * (c.loop-four.four + 1) ≡ 4 * c.loop-four.four + 4 = omega arith in (omega arith, rw e (written_four N (4 * c.loop-four.four) c.loop-four.invariant.1 c.four_products.ensures))
+
+pub returns : goal.returns
+returns c = let e : c.args.n - c.args.n % 4 ≡ 4 * c.loop-four.four = omega arith in (omega arith, rw e c.loop-four.invariant.1)

@@ -13,6 +13,3 @@ N = ieee binary64
 
 abbrev pub invariant-loop-row : goal.invariant-loop-row
 invariant-loop-row l = (l.row ≤ l.n) × Written N (λ k. k) l.n (back_substitution N l.n (view_u N l.stride l.u) (entry N l.initial.b) (l.n - l.row)) l.initial.b l.b
-
-abbrev pub decreases-loop-row : goal.decreases-loop-row
-decreases-loop-row l = l.row

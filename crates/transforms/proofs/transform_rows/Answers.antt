@@ -1,13 +1,15 @@
--- `transform_rows`: one block a turn.
+-- `transform_rows`: the slice is cut where the later row begins.
 use native.Mathlib.Omega.{arith}
 use lib.Ieee.{binary64}
 use Rattle.numbers.specs.NumberForm.{NumberForm, ieee}
-use Rattle.transforms.proofs.Pairs.{rows_further}
+use Rattle.transforms.proofs.Pairs.{first_in_front, second_in_front}
 use Rattle.transforms.proofs.transform_rows.Goals as goal
 
 abbrev N : NumberForm
 N = ieee binary64
 
-pub loop-done-preserved : goal.loop-done-preserved
-loop-done-preserved c =
-    (omega arith, rows_further N c.args.x c.args.y c.args.count c.loop-done.done c.requires.0 (omega arith) c.loop-done.invariant.1 c.transform_block.ensures)
+pub returns-then-x-y : goal.returns-then-x-y
+returns-then-x-y c = rw c.split_at_mut-before.ensures.value (first_in_front N (omega arith) (omega arith) c.transform_slices.ensures)
+
+pub returns-else-x-y : goal.returns-else-x-y
+returns-else-x-y c = rw c.split_at_mut-before-else-x-y.ensures.value (second_in_front N (omega arith) (omega arith) c.transform_slices-else-x-y.ensures)

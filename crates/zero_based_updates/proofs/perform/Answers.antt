@@ -1,5 +1,4 @@
--- `perform`: each mode's update is the machine's call.
-use native.Mathlib.Omega.{arith}
+-- `perform`: each update is the machine's call.
 use lib.Ieee.{binary64}
 use Rattle.numbers.specs.NumberForm.{NumberForm, ieee}
 use Rattle.numbers.specs.Tolerances.{zero_based_epsilon, zero_based_tiny}
@@ -9,38 +8,18 @@ use Rattle.zero_based_updates.proofs.perform.Goals as goal
 abbrev N : NumberForm
 N = ieee binary64
 
-pub returns-then-mode-eq1 : goal.returns-then-mode-eq1
-returns-then-mode-eq1 c =
-    let b = c.zero_based-numerics.ensures in
-    let a = c.args in
-    push_performed N zero_based_epsilon zero_based_tiny b.0 b.1 a.mode a.stride a.n a.row a.column a.l.now a.u.now a.y.now a.z.now a.w.now
-    c.if-mode-eq1.true
-    c.push.ensures
+pub returns-in-Push-clause-done : goal.returns-in-Push-clause-done
+returns-in-Push-clause-done c = let b = c.zero_based-numerics.ensures in rw c.in-Push.is (push_performed N zero_based_epsilon zero_based_tiny b.0 b.1 c.push.ensures.carried_out)
 
-pub returns-then-mode-eq2 : goal.returns-then-mode-eq2
-returns-then-mode-eq2 c =
+pub returns-in-ReplaceColumn-clause-done : goal.returns-in-ReplaceColumn-clause-done
+returns-in-ReplaceColumn-clause-done c =
     let b = c.zero_based-numerics.ensures in
-    let a = c.args in
-    let p = c.requires in
-    column_performed N zero_based_epsilon zero_based_tiny b.0 b.1 a.mode a.stride a.n a.row a.column a.l.now a.u.now a.y.now a.z.now a.w.now c.if-mode-eq2.true
-    (p.1.1.1.1.1.1.1.1.0 c.if-mode-eq2.true)
-    c.replace_column.ensures
+    let h = rw c.in-ReplaceColumn.is at c.requires.in_range in rw c.in-ReplaceColumn.is (column_performed N zero_based_epsilon zero_based_tiny b.0 b.1 h c.replace_column.ensures.carried_out)
 
-pub returns-then-mode-eq3 : goal.returns-then-mode-eq3
-returns-then-mode-eq3 c =
-    let m = c.if-mode-eq3.true in
+pub returns-in-ReplaceRow-clause-done : goal.returns-in-ReplaceRow-clause-done
+returns-in-ReplaceRow-clause-done c =
     let b = c.zero_based-numerics.ensures in
-    let a = c.args in
-    let p = c.requires in
-    row_performed N zero_based_epsilon zero_based_tiny b.0 b.1 a.mode a.stride a.n a.row a.column a.l.now a.u.now a.y.now a.z.now a.w.now c.if-mode-eq3.true
-    (p.1.1.1.1.1.1.1.0 (omega arith))
-    c.replace_row.ensures
+    let h = rw c.in-ReplaceRow.is at c.requires.in_range in rw c.in-ReplaceRow.is (row_performed N zero_based_epsilon zero_based_tiny b.0 b.1 h c.replace_row.ensures.carried_out)
 
-pub returns-else-mode-eq3 : goal.returns-else-mode-eq3
-returns-else-mode-eq3 c =
-    let g = c.if-mode-eq3.false in
-    let b = c.zero_based-numerics.ensures in
-    let a = c.args in
-    let p = c.requires in
-    remove_performed N zero_based_epsilon zero_based_tiny b.0 b.1 a.mode a.stride a.n a.row a.column a.l.now a.u.now a.y.now a.z.now a.w.now (omega arith)
-    c.remove.ensures
+pub returns-in-Remove-clause-done : goal.returns-in-Remove-clause-done
+returns-in-Remove-clause-done c = let b = c.zero_based-numerics.ensures in rw c.in-Remove.is (remove_performed N zero_based_epsilon zero_based_tiny b.0 b.1 c.remove.ensures.carried_out)

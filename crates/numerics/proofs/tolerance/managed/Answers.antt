@@ -1,9 +1,8 @@
--- `managed`: the definitions' fractions are rounded, and the literals' bits read.
-use mathlib.Core.Path.{refl}
+-- `managed`: the definition's fraction is rounded, and the literal's bits read.
 use lib.Ieee.{of_bits}
-use Rattle.numbers.specs.Tolerances.{managed_epsilon, update_tiny}
+use Rattle.numbers.specs.Tolerances.{managed_epsilon}
 use Rattle.numerics.proofs.tolerance.managed.Goals as goal
 
 pub returns : goal.returns
-unfolding of_bits managed_epsilon update_tiny
-returns c = (refl, refl)
+unfolding of_bits managed_epsilon
+returns c = c.with_epsilon.ensures

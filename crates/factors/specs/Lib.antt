@@ -1,0 +1,2 @@
+pub mod SameStorage
+pub mod StepPerformed

@@ -1,5 +1,0 @@
--- `placed`: its loop ends.
-use Rattle.replay.proofs.sample_buffers.placed.Given as goal
-
-abbrev pub decreases-loop-left : goal.decreases-loop-left
-decreases-loop-left l = l.left
