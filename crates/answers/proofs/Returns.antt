@@ -1,12 +1,12 @@
 -- From the outcome of a managed call to what it returns to a C host, which keeps the capacity, and the dimension where no call changes it.
 use mathlib.Core.Path.{◌≡◌, refl, subst}
-use mathlib.Core.Bool.{false}
+use mathlib.Core.Bool.{Bool, true, false}
 use mathlib.Core.List.{List}
 use Prim.Native.Nat.{ℕ}
 use lib.Ieee.{Float, Format}
 use Rattle.numbers.specs.NumberForm.{NumberForm, ieee}
 use Rattle.numbers.specs.Tolerances.{managed_epsilon, managed_tiny}
-use Rattle.machine.specs.Calls.{Call, replace_row, replace_column, solve, solve_transpose, Answer, number_of, is_update}
+use Rattle.machine.specs.Calls.{Call, push, replace_row, replace_column, remove, solve, solve_transpose, Answer, number_of, is_update}
 use Rattle.machine.specs.Machine.{accepted}
 use Rattle.managed.specs.Instance.{StateValue, state_value, Instance, instance, view}
 use Rattle.managed.specs.Outcome.{report}
@@ -15,51 +15,53 @@ use Rattle.managed.proofs.Outcomes.{dimension_stays}
 use Rattle.managed.proofs.Counted.{with_counter, solve_at_any}
 use Rattle.answers.specs.Returned.{Returned}
 
+-- the calls that keep the dimension: all but push and remove
+abbrev pub keeps_dimension : {A : Type 0} → Call A → Bool
+keeps_dimension (push row column d) = false
+keeps_dimension (replace_row r values) = true
+keeps_dimension (replace_column k values) = true
+keeps_dimension (remove r k) = false
+keeps_dimension (solve rhs) = true
+keeps_dimension (solve_transpose rhs) = true
+
+pub solve_keeps : {A : Type 0} (c : Call A) → is_update c ≡ false → keeps_dimension c ≡ true
+solve_keeps (push row column d) e = cc
+solve_keeps (replace_row r values) e = refl
+solve_keeps (replace_column k values) e = refl
+solve_keeps (remove r k) e = cc
+solve_keeps (solve rhs) e = refl
+solve_keeps (solve_transpose rhs) e = refl
+
 module _ (N : NumberForm) (E T : N.Value) where
   open N use {Value}
 
-  -- a call that keeps the dimension
-  abbrev Stays : Call Value → Instance Value → Type 0
-  Stays c s = (accepted N E T (view N s) c).after.n ≡ s.n
-
-  pub row_stays : (r : ℕ) (values : List Value) (s : Instance Value) → Stays (replace_row r values) s
+  pub dimension_kept : (c : Call Value) (s : Instance Value) → keeps_dimension c ≡ true → (accepted N E T (view N s) c).after.n ≡ s.n
   unfolding accepted
-  row_stays r values s = refl
+  dimension_kept (push row column d) s e = cc
+  dimension_kept (replace_row r values) s e = refl
+  dimension_kept (replace_column k values) s e = refl
+  dimension_kept (remove r k) s e = cc
+  dimension_kept (solve rhs) s e = refl
+  dimension_kept (solve_transpose rhs) s e = refl
 
-  pub column_stays : (k : ℕ) (values : List Value) (s : Instance Value) → Stays (replace_column k values) s
-  unfolding accepted
-  column_stays k values s = refl
+module _ (F : Format) {c : Call Float} {s : Instance Float} {v : StateValue} {k number : ℕ} {l u y z w b : List Float} {a : Answer} {Out : Answer → Type 0}
+    (o : ManagedOutcome F c s (instance v l u y z w) (report a b k)) (is_number : number ≡ number_of a) (out : Out a) where
+  pub returned : Returned F c s (instance (state_value v.n s.c v.counter) l u y z w) b k Out number
+  returned = record {
+    answer = a;
+    outcome = subst (λ (q : ℕ). ManagedOutcome F c s (instance (state_value v.n q v.counter) l u y z w) (report a b k)) o.capacity o;
+    is_number = is_number;
+    out = out;
+  }
 
-  pub solve_stays : (rhs : List Value) (s : Instance Value) → Stays (solve rhs) s
-  unfolding accepted
-  solve_stays rhs s = refl
-
-  pub transpose_stays : (rhs : List Value) (s : Instance Value) → Stays (solve_transpose rhs) s
-  unfolding accepted
-  transpose_stays rhs s = refl
-
-module _ (F : Format) (c : Call Float) (s : Instance Float) where
-  abbrev DimensionStays : Type 0
-  DimensionStays = Stays (ieee F) (managed_epsilon F) (managed_tiny F) c s
-
-  module _ {v : StateValue} {k number : ℕ} {l u y z w b : List Float} {a : Answer} {Out : Answer → Type 0}
-      (o : ManagedOutcome F c s (instance v l u y z w) (report a b k)) (is_number : number ≡ number_of a) (out : Out a) where
-    pub returned : Returned F c s (instance (state_value v.n s.c v.counter) l u y z w) b k Out number
-    returned = record {
-      answer = a;
-      outcome = subst (λ (q : ℕ). ManagedOutcome F c s (instance (state_value v.n q v.counter) l u y z w) (report a b k)) o.capacity o;
-      is_number = is_number;
-      out = out;
-    }
-
-    pub returned_staying : DimensionStays → Returned F c s (instance (state_value s.n s.c v.counter) l u y z w) b k Out number
-    returned_staying e =
-        subst (λ (m : ℕ). Returned F c s (instance (state_value m s.c v.counter) l u y z w) b k Out number)
-        (dimension_stays (ieee F) (managed_epsilon F) (managed_tiny F) e o) returned
+  pub returned_staying : keeps_dimension c ≡ true → Returned F c s (instance (state_value s.n s.c v.counter) l u y z w) b k Out number
+  returned_staying e =
+      subst (λ (m : ℕ). Returned F c s (instance (state_value m s.c v.counter) l u y z w) b k Out number)
+      (dimension_stays (ieee F) (managed_epsilon F) (managed_tiny F) (dimension_kept (ieee F) (managed_epsilon F) (managed_tiny F) c s e) o) returned
 
 -- a solve, at whatever counter the host keeps
-pub returned_solved : (F : Format) (c : Call Float) (s : Instance Float) {v : StateValue} {k number : ℕ} {l u y z w b : List Float} {a : Answer} {Out : Answer → Type 0}
-    → ManagedOutcome F c s (instance v l u y z w) (report a b k) → number ≡ number_of a → Out a → DimensionStays F c s → is_update c ≡ false
+pub returned_solved : (F : Format) {c : Call Float} {s : Instance Float} {v : StateValue} {k number : ℕ} {l u y z w b : List Float} {a : Answer} {Out : Answer → Type 0}
+    → ManagedOutcome F c s (instance v l u y z w) (report a b k) → number ≡ number_of a → Out a → is_update c ≡ false
     → (m : ℕ) → Returned F c (with_counter m s) (instance (state_value s.n s.c m) l u y z w) b k Out number
-returned_solved F c s o is_number out e solves m =
-    returned_staying F c (with_counter m s) (solve_at_any (ieee F) (managed_epsilon F) (managed_tiny F) o solves m) is_number out e
+returned_solved F o is_number out solves m =
+    returned_staying F (solve_at_any (ieee F) (managed_epsilon F) (managed_tiny F) o solves m) is_number out (solve_keeps _ solves)

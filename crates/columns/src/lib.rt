@@ -42,7 +42,7 @@ pub fn copy_l_column(l: &mut [f64], source: usize, target: usize, rows: usize, s
     }
 }
 
-// values[i] takes U(i, column) for i up to column.
+// values[i] takes U(i, column) for i up to column. One function for L and U would need a contract for its parameter, which is longer than this loop.
 pub fn read_u_column(u: &[f64], column: usize, stride: usize, values: &mut [f64])
     requires { (column < stride) × ((stride < 2 ^ 32) × ((u_length stride ≤ length u.now) × (column < length values.old))) }
     ensures { Written (ieee binary64) (λ k. k) (column + 1) (λ i. view_u (ieee binary64) stride u.now i column) values.old values.new }

@@ -48,7 +48,8 @@ pub fn replace_row(
 ) -> usize
     requires { (factors.old.n ≤ length y.old) × ((factors.old.n ≤ length z.old) × ((factors.old.n ≤ length w.old) × ((factors.old.n ≤ length values.now)
         × (row < factors.old.n)))) }
-    ensures carried_out { CarriedOut (ieee binary64) (managed_epsilon binary64) (managed_tiny binary64) factors.old.stride factors.old.n factors.old.n (calls.replace_row row values.now)
+    ensures carried_out { CarriedOut (ieee binary64) (managed_epsilon binary64) (managed_tiny binary64) factors.old.stride factors.old.n factors.old.n
+        (calls.replace_row row values.now)
         factors.old.l.now factors.old.u.now y.old z.old w.old
         factors.new.l.now factors.new.u.now y.new z.new w.new result }
     ensures same_storage { SameStorage factors.old factors.new }

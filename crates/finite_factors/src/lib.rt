@@ -18,9 +18,8 @@ pub fn finite_range(values: &[f64], start: usize, count: usize) -> bool
     ensures { result ≡ all_below count (λ k. finite (entry (ieee binary64) values.now (start + k))) }
 {
     let mut all = true;
-    for k in 0..count {
-        let one = is_finite(values[start + k]);
-        all = all & one;
+    for value in &values[start..start + count] {
+        all &= is_finite(*value);
     }
     all
 }
@@ -56,8 +55,5 @@ pub fn finite_factors(n: usize, stride: usize, l: &[f64], u: &[f64]) -> bool
     requires { LRoom (ieee binary64) stride n l.now × URoom (ieee binary64) stride n u.now }
     ensures { result ≡ (finite_l (ieee binary64) n (view_l (ieee binary64) stride l.now) && finite_u (ieee binary64) n (view_u (ieee binary64) stride u.now)) }
 {
-    if !finite_l(n, stride, l) {
-        return false;
-    }
-    finite_u(n, stride, u)
+    finite_l(n, stride, l) && finite_u(n, stride, u)
 }

@@ -25,7 +25,8 @@ pub fn forward(
     numerics: Numerics,
 ) -> usize
     requires { (columns ≤ length y.old) × ((first ≤ last) × ((last < factors.old.n) × ((last ≤ columns) × (columns ≤ factors.old.n)))) }
-    ensures performed { StepPerformed 0 columns 0 (Forward.forward (ieee binary64) numerics.epsilon numerics.tiny first last columns) factors.old y.old [] factors.new y.new [] }
+    ensures performed { StepPerformed 0 columns 0 (Forward.forward (ieee binary64) numerics.epsilon numerics.tiny first last columns)
+        factors.old y.old [] factors.new y.new [] }
     ensures counted { result ≡ forward_count (ieee binary64) numerics.epsilon numerics.tiny first last columns (work_with factors.old y.old []) }
 {
     let mut steps = 0;

@@ -26,7 +26,8 @@ pub fn forward_row(
     numerics: Numerics,
 ) -> usize
     requires { (columns ≤ length y.old) × ((row < last) × ((last < factors.old.n) × ((last ≤ columns) × (columns ≤ factors.old.n)))) }
-    ensures performed { StepPerformed 0 columns 0 (forward_row (ieee binary64) numerics.epsilon numerics.tiny last columns row) factors.old y.old [] factors.new y.new [] }
+    ensures performed { StepPerformed 0 columns 0 (forward_row (ieee binary64) numerics.epsilon numerics.tiny last columns row)
+        factors.old y.old [] factors.new y.new [] }
     ensures counted { result ≡ forward_row_count (ieee binary64) numerics.epsilon row (work_with factors.old y.old []) }
 {
     let n = factors.n;

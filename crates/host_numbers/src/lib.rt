@@ -1,4 +1,4 @@
-// The sizes that a C host's numbers stand for.
+// The sizes and the indices that a C host's numbers stand for.
 #![tactic(auto)]
 
 ghost use Rattle.std.specs.Prelude.{◌≡◌, ◌^◌, ◌<◌};

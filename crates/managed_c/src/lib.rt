@@ -1,5 +1,5 @@
 // The managed calls for a C host that change no factor: lengths, adoption, ready and the solves. The state is a dimension and a capacity, handed over as numbers.
-// Each returns its refusal's number, 0 for success.
+// Each returns its refusal's number, 0 for success. C has no Result and no Option: the number and the out-parameters stand for them.
 #![tactic(auto)]
 
 ghost use Rattle.std.specs.Prelude.{◌≡◌, length};

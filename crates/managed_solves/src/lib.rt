@@ -1,5 +1,5 @@
-// The two managed solves on a dimension, a capacity and lent slices: each is tested, and then either refused, with nothing written, or carried out. They stay two:
-// one function over what is called would be longer than both bodies.
+// The two managed solves on a dimension, a capacity and lent slices: each is tested, and then either refused, with nothing written, or carried out.
+// They are two functions: one over the solve that is called would be longer than both bodies.
 #![tactic(auto)]
 
 ghost use Rattle.std.specs.Float.{binary64};

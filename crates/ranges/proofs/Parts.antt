@@ -1,4 +1,4 @@
--- A part of a slice that is written at once.
+-- Parts of slices: what one holds that is written at once, and the entries of one that is read.
 use Rattle.std.proofs.Common.{◌≡◌, ◌∙◌, ℕ, ◌+◌, ◌-◌, ◌≤◌, ◌<◌, List, length, take, drop, replicate, arith, rules}
 use Rattle.std.proofs.lemmas.List.{places}
 use borrow.Rule.Slice.PartMut.{put_mid}
@@ -23,7 +23,7 @@ module _ (N : NumberForm) (at count k : ℕ) (xs ys : List N.Value) (fits : at +
   long_as_before : length (put_mid at k xs ys) ≡ length xs
   long_as_before = search (rules, places)
 
-  pub part_written : {f : Vector Value} → ((j : ℕ) → j < count → entry N ys j ≡ f j) → Written N (from at) count f xs (put_mid at k xs ys)
+  part_written : {f : Vector Value} → ((j : ℕ) → j < count → entry N ys j ≡ f j) → Written N (from at) count f xs (put_mid at k xs ys)
   part_written e = record {
     value = λ j h. within j h ∙ e j h;
     kept = record {
@@ -37,12 +37,6 @@ module _ (N : NumberForm) (at count k : ℕ) (xs ys : List N.Value) (fits : at +
 
 module _ (N : NumberForm) (at count : ℕ) (xs ys : List N.Value) where
   open N use {Value}
-
-  -- what `target[at..at + count].copy_from_slice(&source[start..start + count])` leaves
-  pub copied : (start : ℕ) (source : List Value) → at + count ≤ length xs → start + count ≤ length source → ys ≡ take (start + count - start) (drop start source)
-      → Written N (from at) count (λ k. entry N source (start + k)) xs (put_mid at (at + count - at) xs ys)
-  copied start source fits fits-source e =
-      part_written N at count (at + count - at) xs ys fits (omega arith) (rw e (search (rules, places))) (λ j h. rw e (search (rules, places)))
 
   -- what `target[at..at + count].fill(value)` leaves
   pub filled : (value : Value) → at + count ≤ length xs → ys ≡ replicate (length (take (at + count - at) (drop at xs))) value

@@ -8,12 +8,14 @@ ghost use Rattle.machine.specs.Products.{entry};
 ghost use Rattle.ranges.specs.Written.{from, Written};
 ghost use Rattle.ranges.specs.Sums.{dot_product, multiple_added};
 
-// Copies count entries of `source`, from `start` on, to `target` from `at` on.
+// Copies count entries of `source`, from `start` on, to `target` from `at` on. By a loop: copy_from_slice makes a solve at dimension 1 slower by a quarter.
 pub fn copy(target: &mut [f64], at: usize, source: &[f64], start: usize, count: usize)
     requires { (at + count ≤ length target.old) × (start + count ≤ length source.now) }
     ensures { Written (ieee binary64) (from at) count (λ k. entry (ieee binary64) source.now (start + k)) target.old target.new }
 {
-    target[at..at + count].copy_from_slice(&source[start..start + count]);
+    for k in 0..count {
+        target[at + k] = source[start + k];
+    }
 }
 
 // Sets count entries of `target`, from `at` on, to one value.

@@ -1,4 +1,4 @@
--- What a refusal says in words: the sentence of its row in document 01's table, with the index where it has one.
+-- What a refusal says in words: one sentence for each number of documents 01 and 02, with its index or place where it has one.
 use Rattle.std.specs.Prelude.{List, ◌++◌, ℕ, codes, decimal}
 use Rattle.refusals.specs.declared.Refusal.{Refusal}
 use Rattle.refusals.specs.declared.Refusal.TheVariants as refusal

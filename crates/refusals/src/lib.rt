@@ -38,7 +38,7 @@ pub enum Refusal {
     NonFiniteDiagonal(usize),
 }
 
-// In words, with the index where it has one.
+// In words, with its index or place where it has one.
 impl fmt::Display for Refusal {
     ghost output = { λ refused. Some (text_of refused) };
 

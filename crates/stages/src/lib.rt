@@ -65,7 +65,8 @@ pub fn drop_column(
     numerics: Numerics,
 ) -> usize
     requires { (factors.old.n ≤ length y.old) × ((factors.old.n ≤ length w.old) × (column < factors.old.n)) }
-    ensures updated { Updated (ieee binary64) factors.old.stride factors.old.n (state_of factors.old.n (column_dropped (ieee binary64) numerics.epsilon numerics.tiny (factors.old.n - 1)
+    ensures updated { Updated (ieee binary64) factors.old.stride factors.old.n (state_of factors.old.n
+        (column_dropped (ieee binary64) numerics.epsilon numerics.tiny (factors.old.n - 1)
         (view_l (ieee binary64) factors.old.stride factors.old.l.now) (view_u (ieee binary64) factors.old.stride factors.old.u.now) column))
         factors.old.l.now factors.old.u.now y.old [] w.old factors.new.l.now factors.new.u.now y.new [] w.new }
     ensures counted { result ≡ column_dropped_count (ieee binary64) numerics.epsilon numerics.tiny (factors.old.n - 1)

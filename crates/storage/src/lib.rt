@@ -48,10 +48,12 @@ pub fn l_index(row: usize, column: usize, capacity: usize) -> usize
 }
 
 // The place of U(row, column), row <= column, in storage of that capacity.
+#[tactic(auto, using(crate::proofs::Places::u_index_within), unfolding(crate::specs::Places::u_index))]
 pub fn u_index(row: usize, column: usize, capacity: usize) -> usize
     requires { (row ≤ column) × ((column < capacity) × (capacity < 2 ^ 32)) }
     ensures { (result ≡ u_index capacity row column) × (result < u_length capacity) }
 {
+    // Row 0 stands apart: saturating_sub makes the loops over U's columns slower.
     if row == 0 {
         return column;
     }

@@ -8,7 +8,8 @@ ghost use Rattle.transforms.specs.RowsTransformed.{RowsTransformed, SlicesTransf
 
 use numerics::pair::{Transform, apply_pair};
 
-// Applies a transform to the pairs xs[x + k] (first), ys[y + k] (second) for k below count.
+// Applies a transform to the pairs xs[x + k] (first), ys[y + k] (second) for k below count. Each pair is held in locals: transformed in place, pairs that are
+// exchanged are taken half as many at a time.
 pub fn transform_slices(
     xs: &mut [f64],
     x: usize,
@@ -21,12 +22,16 @@ pub fn transform_slices(
     ensures { SlicesTransformed (ieee binary64) transform.swap transform.multiplier x y count xs.old ys.old xs.new ys.new }
 {
     for k in 0..count {
-        apply_pair(&mut xs[x + k], &mut ys[y + k], transform);
+        let mut first = xs[x + k];
+        let mut second = ys[y + k];
+        apply_pair(&mut first, &mut second, transform);
+        xs[x + k] = first;
+        ys[y + k] = second;
     }
 }
 
 // Applies a transform to the pairs matrix[x + k] (first), matrix[y + k] (second) for k below count. The two ranges have no place in common: the slice is cut
-// where the later one begins, and its two parts are lent apart, so that vector instructions need no test whether the ranges meet.
+// where the later one begins, and its parts are two slices.
 pub fn transform_rows(matrix: &mut [f64], x: usize, y: usize, count: usize, transform: Transform)
     requires { ((x + count ≤ y) ⊎ (y + count ≤ x)) × ((x + count ≤ length matrix.old) × (y + count ≤ length matrix.old)) }
     ensures { RowsTransformed (ieee binary64) transform.swap transform.multiplier x y count matrix.old matrix.new }

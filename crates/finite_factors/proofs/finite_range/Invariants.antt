@@ -1,6 +1,6 @@
 -- `finite_range`: one entry a turn.
 use mathlib.Core.Path.{◌≡◌}
-use Prim.Native.Nat.{◌+◌, ◌≤◌}
+use Prim.Native.Nat.{◌+◌}
 use lib.Ieee.{binary64}
 use lib.Ieee.Scale.{finite}
 use Rattle.numbers.specs.NumberForm.{NumberForm, ieee}
@@ -11,5 +11,5 @@ use Rattle.finite_factors.proofs.finite_range.Given as goal
 abbrev N : NumberForm
 N = ieee binary64
 
-abbrev pub invariant-loop-k : goal.invariant-loop-k
-invariant-loop-k l = (l.k ≤ l.count) × (l.all ≡ all_below l.k (λ i. finite (entry N l.values (l.start + i))))
+abbrev pub invariant-loop-value : goal.invariant-loop-value
+invariant-loop-value l = l.all ≡ all_below l.value-index (λ i. finite (entry N l.values (l.start + i)))
