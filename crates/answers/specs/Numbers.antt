@@ -1,14 +1,12 @@
 -- What a C host finds in the out-parameters for an index and for what moved.
 use Rattle.std.proofs.Math.Option.{Option, none, some}
-use Rattle.std.specs.Prelude.{ℕ, ◌-◌, ◌^◌}
+use Rattle.std.specs.Prelude.{ℕ, ◌-◌, ◌^◌, unwrap_or}
 use Rattle.machine.specs.Calls.{Answer, done, moved, refused, refused_at}
+use Rattle.refusals.specs.Refusal.{index_of}
 
 -- the index, which is written with 9, 10 and 23 alone
 abbrev pub index_after : Answer → ℕ → ℕ
-index_after done old = old
-index_after (moved r k) old = old
-index_after (refused number) old = old
-index_after (refused_at number i) old = i
+index_after a old = unwrap_or (index_of a) old
 
 -- SIZE_MAX where nothing moved
 abbrev pub moved_number : Option ℕ → ℕ

@@ -8,7 +8,7 @@ ghost use Rattle.api.specs.Answers.{remove_answer_of};
 ghost use Rattle.answers.specs.Numbers.{index_after, moved_row_after, moved_column_after};
 
 use api::Removal;
-use refusals::{Refusal, refusal_number};
+use refusals::Refusal;
 
 // The number of an answer: 0, or its refusal's.
 pub fn answer_number<T: Copy>(answer: Result<T, Refusal>) -> u32
@@ -16,7 +16,7 @@ pub fn answer_number<T: Copy>(answer: Result<T, Refusal>) -> u32
 {
     match answer {
         Ok(_) => 0,
-        Err(refusal) => refusal_number(refusal),
+        Err(refusal) => refusal.into(),
     }
 }
 
@@ -24,13 +24,11 @@ pub fn answer_number<T: Copy>(answer: Result<T, Refusal>) -> u32
 pub fn named_index<T: Copy>(answer: Result<T, Refusal>, old: usize) -> usize
     ensures { result ≡ index_after (answer_of answer) old }
 {
-    match answer {
-        Err(Refusal::NonFiniteData(i) | Refusal::Singular(i) | Refusal::NonFiniteDiagonal(i)) => i,
-        _ => old,
-    }
+    answer.err().and_then(Refusal::index).unwrap_or(old)
 }
 
 // The row that a remove moved, or SIZE_MAX where none moved, or `old` where it was refused.
+// A function of what moved for this and `moved_column` would have, with its contract, more lines than the two `map_or`.
 pub fn moved_row(answer: Result<Removal, Refusal>, old: usize) -> usize
     ensures { result ≡ moved_row_after (remove_answer_of answer) old }
 {

@@ -82,7 +82,7 @@ fn steps_of(update: Result<Made, Refusal>) -> usize
     update.map_or(0, |made| made.steps)
 }
 
-// What an update hands back, remove apart.
+// What an update hands back, remove apart. It and `remove_result` differ in what they answer of `Made`: one over a closure would need that closure's contract.
 fn update_result(state: LuMod, update: Result<Made, Refusal>) -> UpdateResult<()>
     ensures { (state_of result.state ≡ updates.state_after update state.n state.capacity state.counter) × (update_report result ≡ updates.report_of update) }
 {
@@ -110,7 +110,8 @@ fn remove_result(
     row: usize,
     column: usize,
 ) -> UpdateResult<Removal>
-    ensures { (state_of result.state ≡ updates.state_after update state.n state.capacity state.counter) × (remove_report result ≡ updates.remove_report_of row column update) }
+    ensures { (state_of result.state ≡ updates.state_after update state.n state.capacity state.counter)
+        × (remove_report result ≡ updates.remove_report_of row column update) }
 {
     UpdateResult {
         state: state_after(state, update),

@@ -1,19 +1,17 @@
--- Trimming, U's row into y, and the rows of Backward one after the other.
+-- U's row into y, and the rows of Backward one after the other.
 use mathlib.Core.Path.{◌≡◌, refl, sym, ap, ◌∙◌}
-use mathlib.Core.Bool.{Bool, true, false, ◌&&◌}
+use mathlib.Core.Bool.{◌&&◌}
 use mathlib.Core.List.{List}
-use Prim.Native.Nat.{ℕ, zero, suc, ◌+◌, ◌-◌, ◌≤◌, ◌<◌}
+use Prim.Native.Nat.{ℕ, suc, ◌+◌, ◌-◌, ◌≤◌, ◌<◌}
 use native.Mathlib.Omega.{arith}
 use lib.Dec.{leb, ltb}
-use borrow.Author.Tests.{lt-ltb, le-ltb}
 use Rattle.numbers.specs.NumberForm.{NumberForm}
-use Rattle.machine.specs.Tables.{Vector, Work}
+use Rattle.machine.specs.Tables.{Work}
 use Rattle.machine.specs.Products.{entry}
-use Rattle.machine.specs.Backward.{copy_row_to_dense, negligible, trim, backward_row, backward_rows}
+use Rattle.machine.specs.Backward.{copy_row_to_dense, backward_row, backward_rows}
 use Rattle.machine.specs.Agreement.{AgreeWithin}
 use Rattle.machine.specs.Counts.{backward_row_count, backward_rows_count}
 use Rattle.machine.proofs.Choice.{pick, out_of_range}
-use Rattle.machine.proofs.CountLimits.{backward_row_count_le, backward_rows_count_le}
 use Rattle.machine.proofs.Counts.{backward_row_count_same}
 use Rattle.storage.specs.Places.{u_index}
 use Rattle.storage.proofs.Kept.{kept_more}
@@ -23,29 +21,7 @@ use Rattle.ranges.proofs.RowParts.{part_place}
 use Rattle.buffers.specs.Performed.{Performed}
 
 module _ (N : NumberForm) where
-  open N use {Value, abs, le}
-
-  -- ---- trimming: one turn, and the two ways it ends
-
-  module _ (E : Value) (v : Vector Value) (start : ℕ) where
-    small : {a : Value} {r : Bool} (s : ℕ) → a ≡ abs (v s) → le a E ≡ r → negligible N E (v s) ≡ r
-    unfolding negligible
-    small s e g = (λ t. le (sym e t) E) ∙ g
-
-    pub trim_more : {a : Value} (s : ℕ) → start < s → a ≡ abs (v s) → le a E ≡ true → trim N E start (s - 1) v ≡ trim N E start s v
-    unfolding trim
-    trim_more zero h e g = absurd (omega arith)
-    trim_more (suc s) h e g = let q : suc s - 1 ≡ s = omega arith in rw (q, lt-ltb start (suc s) h, small (suc s) e g)
-
-    pub trim_ends : {a : Value} (s : ℕ) → start < s → a ≡ abs (v s) → le a E ≡ false → s ≡ trim N E start s v
-    unfolding trim
-    trim_ends zero h e g = refl
-    trim_ends (suc s) h e g = rw (lt-ltb start (suc s) h, small (suc s) e g)
-
-    pub trim_at_start : (s : ℕ) → s ≤ start → s ≡ trim N E start s v
-    unfolding trim
-    trim_at_start zero h = refl
-    trim_at_start (suc s) h = rw (le-ltb start (suc s) h)
+  open N use {Value}
 
   -- ---- all rows
 
@@ -65,13 +41,6 @@ module _ (N : NumberForm) where
     pub backward_count_none : (S : Work Value) → 0 ≡ backward_rows_count N E T selected columns (selected - selected) S
     unfolding backward_rows_count
     backward_count_none S = let e : selected - selected ≡ 0 = omega arith in rw e
-
-    -- a row takes one pair step at most
-    pub row_counted_le : (row : ℕ) (S : Work Value) {a : ℕ} → a ≡ backward_row_count N E selected row S → a ≤ 1
-    row_counted_le row S is-a = omega (arith, is-a, backward_row_count_le N E selected row S)
-
-    pub rows_counted_le : (d : ℕ) (S : Work Value) {a : ℕ} → a ≡ backward_rows_count N E T selected columns d S → a ≤ d
-    rows_counted_le d S is-a = omega (arith, is-a, backward_rows_count_le N E T selected columns d S)
 
     -- S is what the rows before have left of R
     pub backward_count_more : (n row : ℕ) (R : Work Value) {a b : ℕ} {S : Work Value} → columns ≤ n → 0 < row → row ≤ selected → selected < n → a ≡ backward_rows_count N E T selected columns (selected - row) R

@@ -8,6 +8,7 @@ ghost use Rattle.machine.specs.Products.{entry};
 ghost use Rattle.machine.specs.Backward.{backward_rows};
 ghost use Rattle.machine.specs.Backward;
 ghost use Rattle.machine.specs.Counts.{backward_rows_count, backward_count};
+ghost use Rattle.factors.specs.StepFits.{StepFits};
 ghost use Rattle.factors.specs.StepPerformed.{work_with, StepPerformed};
 
 use backward_row::backward_row;
@@ -22,13 +23,12 @@ pub fn trim(first: usize, last: usize, v: &[f64], epsilon: f64) -> usize
     requires { (first ≤ last) × (last < length v.now) }
     ensures { (result ≡ Backward.trim (ieee binary64) epsilon first last (entry (ieee binary64) v.now)) × ((first ≤ result) × (result ≤ last)) }
 {
-    for selected in (first + 1..=last).rev() {
-        let negligible = abs(v[selected]) <= epsilon;
-        if !negligible {
-            return selected;
-        }
+    let above = &v[first + 1..=last];
+    // A NaN is not at most epsilon, so it is found.
+    match above.iter().rposition(|x| !(abs(*x) <= epsilon)) {
+        Some(k) => first + 1 + k,
+        None => first,
     }
-    first
 }
 
 // The rows from selected - 1 down to `first`. It answers how many pair steps it made.
@@ -41,14 +41,18 @@ pub fn backward_rows(
     v: &mut [f64],
     numerics: Numerics,
 ) -> usize
-    requires { (columns ≤ length y.old) × ((factors.old.n ≤ length v.old) × ((first ≤ selected) × ((selected < factors.old.n)
-        × ((selected ≤ columns) × (columns ≤ factors.old.n))))) }
-    ensures performed { StepPerformed first columns factors.old.n (backward_rows (ieee binary64) numerics.epsilon numerics.tiny selected columns (selected - first))
+    requires fits { StepFits selected columns factors.old y.old }
+    requires long { factors.old.n ≤ length v.old }
+    requires within { first ≤ selected }
+    ensures performed { StepPerformed first columns factors.old.n
+        (backward_rows (ieee binary64) numerics.epsilon numerics.tiny selected columns (selected - first))
         factors.old y.old v.old factors.new y.new v.new }
     ensures counted { result ≡ backward_rows_count (ieee binary64) numerics.epsilon numerics.tiny selected columns (selected - first)
         (work_with factors.old y.old v.old) }
+    ensures few { result ≤ selected - first }
 {
     let mut steps = 0;
+    // Rows by number: each is a row of U, a row of L, an entry of y and one of v.
     for row in (first..selected).rev() {
         steps += backward_row(row, selected, columns, factors, y, v, numerics);
     }
@@ -66,14 +70,20 @@ pub fn backward(
     v: &mut [f64],
     numerics: Numerics,
 ) -> usize
-    requires { (columns ≤ length y.old) × ((factors.old.n ≤ length v.old) × ((first ≤ selected) × ((selected < factors.old.n)
-        × ((selected ≤ columns) × (columns ≤ factors.old.n))))) }
+    requires fits { StepFits selected columns factors.old y.old }
+    requires long { factors.old.n ≤ length v.old }
+    requires within { first ≤ selected }
     ensures performed { StepPerformed first columns factors.old.n (Backward.backward (ieee binary64) numerics.epsilon numerics.tiny first selected columns)
         factors.old y.old v.old factors.new y.new v.new }
     ensures counted { result ≡ backward_count (ieee binary64) numerics.epsilon numerics.tiny first selected columns (work_with factors.old y.old v.old) }
+    ensures few { result ≤ selected - first }
 {
     let diagonal = u_index(selected, selected, factors.stride);
-    let u = &mut *factors.u;
-    copy(y, selected, u, diagonal, columns - selected);
+    // U is lent whole first: where a part of the field itself is lent to be read, a proof knows only U's length afterwards.
+    let u: &[f64] = &mut *factors.u;
+    copy(
+        &mut y[selected..columns],
+        &u[diagonal..diagonal + (columns - selected)],
+    );
     backward_rows(first, selected, columns, factors, y, v, numerics)
 }

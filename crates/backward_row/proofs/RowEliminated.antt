@@ -18,8 +18,8 @@ use Rattle.storage.specs.Places.{u_index}
 use Rattle.storage.specs.Views.{view_u}
 use Rattle.storage.proofs.Kept.{kept_all, kept_set, kept_then, kept_more}
 use Rattle.storage.proofs.Frames.{frame_y}
-use Rattle.ranges.specs.Written.{from, Written}
 use Rattle.transforms.specs.RowsTransformed.{RowsTransformed}
+use Rattle.transforms.proofs.Pairs.{RangesTransformed}
 use Rattle.ranges.proofs.RowParts.{part_place, outside_part, part_free, left_out}
 use Rattle.buffers.specs.Performed.{work_of, Performed}
 use Rattle.buffers.proofs.Buffers.{l_transformed, l_transformed_kept}
@@ -50,8 +50,7 @@ module _ (N : NumberForm) where
   module _ (c n columns row selected d : ℕ) (l u y v : List Value) {l' u' y' : List Value} (x z : Value) (swap : Bool) (m : Value)
       (hc : n ≤ c) (hk : columns ≤ n) (hr : row < selected) (hs : selected < n) (hs' : selected ≤ columns) (is-d : d ≡ u_index c row row) (v-long : n ≤ length v)
       (cleared : z ≡ 𝟎)
-      (ys : Written N (from row) (columns - row) (λ k. first N swap (entry N y (row + k)) (entry N u (d + k))) y y')
-      (us : Written N (from d) (columns - row) (λ k. second N swap m (entry N y (row + k)) (entry N u (d + k))) u u')
+      (pairs : RangesTransformed N swap m row d (columns - row) y u y' u')
       (ls : RowsTransformed N swap m (selected * c) (row * c) n l l') where
     module _ (j : ℕ) (h : row ≤ j) (g : j < columns) where
       back : row + (j - row) ≡ j
@@ -61,10 +60,10 @@ module _ (N : NumberForm) where
       place = part_place c row row (columns - row) d (omega arith) (omega arith) is-d (j - row) (omega arith) ∙ ap (u_index c row) back
 
       row_u : view_u N c u' row j ≡ second N swap m (entry N y j) (view_u N c u row j)
-      row_u = ap (entry N u') (sym place) ∙ us.value (j - row) (omega arith) ∙ (λ t. second N swap m (entry N y (back t)) (entry N u (place t)))
+      row_u = ap (entry N u') (sym place) ∙ pairs.1.value (j - row) (omega arith) ∙ (λ t. second N swap m (entry N y (back t)) (entry N u (place t)))
 
       row_y : entry N y' j ≡ first N swap (entry N y j) (view_u N c u row j)
-      row_y = ap (entry N y') (sym back) ∙ ys.value (j - row) (omega arith) ∙ (λ t. first N swap (entry N y (back t)) (entry N u (place t)))
+      row_y = ap (entry N y') (sym back) ∙ pairs.0.value (j - row) (omega arith) ∙ (λ t. first N swap (entry N y (back t)) (entry N u (place t)))
 
     transformed_u : (i j : ℕ) → i ≤ j → j < n → view_u N c u' i j ≡ (backward_transform N selected columns row (step_of x swap m) (work_of N c l u y v)).U i j
     unfolding backward_transform
@@ -74,7 +73,7 @@ module _ (N : NumberForm) where
         let e = eqb→eq i row (and_l (eqb i row) (leb row j && ltb j columns) s) in
         let f = in_range row columns j (and_r (eqb i row) (leb row j && ltb j columns) s) in
         rw e (row_u j f.0 f.1))
-        (λ s. us.kept.same _ (outside_part c row row (columns - row) d (omega arith) (omega arith) is-d i j hij (omega arith)
+        (λ s. pairs.1.kept.same _ (outside_part c row row (columns - row) d (omega arith) (omega arith) is-d i j hij (omega arith)
         (left_out row columns i j s)))
 
     transformed_y : (j : ℕ) → row ≤ j → j < columns → entry N y' j ≡ (backward_transform N selected columns row (step_of x swap m) (work_of N c l u y v)).y j
@@ -101,8 +100,8 @@ module _ (N : NumberForm) where
       agree = record { L = l_transformed N c n selected row hc hs (omega arith) ls; U = transformed_u; y = transformed_y; v = transformed_v };
       frame = record {
         l_kept = l_transformed_kept N c n selected row hc hs (omega arith) ls;
-        u_kept = kept_more N (part_free c row row (columns - row) d (omega arith) (omega arith) is-d n (omega arith)) us.kept;
-        y_kept = kept_more N (λ q w. omega arith) ys.kept;
+        u_kept = kept_more N (part_free c row row (columns - row) d (omega arith) (omega arith) is-d n (omega arith)) pairs.1.kept;
+        y_kept = kept_more N (λ q w. omega arith) pairs.0.kept;
         z_kept = kept_all N;
         w_kept = kept_then N (kept_set N v selected x hs) (kept_set N (set v selected x) row z (omega arith));
       };

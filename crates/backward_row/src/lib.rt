@@ -6,6 +6,7 @@ ghost use Rattle.std.specs.Float.{binary64};
 ghost use Rattle.numbers.specs.NumberForm.{ieee};
 ghost use Rattle.machine.specs.Backward.{backward_row};
 ghost use Rattle.machine.specs.Counts.{backward_row_count};
+ghost use Rattle.factors.specs.StepFits.{StepFits};
 ghost use Rattle.factors.specs.StepPerformed.{work_with, StepPerformed};
 
 use factors::Factors;
@@ -15,8 +16,8 @@ use numerics::tolerance::Numerics;
 use storage::u_index;
 use transforms::{transform_rows, transform_slices};
 
-// One row: y[row] becomes +0; then a pair step on v[selected] and v[row], applied to y and U's row, and to L's rows `selected` and `row`, unless v[row] is negligible.
-// It answers how many pair steps it made: 1 or 0.
+// One row: y[row] becomes +0; then a pair step on v[selected] and v[row], applied to y and U's row, and to L's rows `selected` and `row`, unless v[row] is
+// negligible. It answers how many pair steps it made: 1 or 0.
 pub fn backward_row(
     row: usize,
     selected: usize,
@@ -26,11 +27,13 @@ pub fn backward_row(
     v: &mut [f64],
     numerics: Numerics,
 ) -> usize
-    requires { (columns ≤ length y.old) × ((factors.old.n ≤ length v.old) × ((row < selected) × ((selected < factors.old.n)
-        × ((selected ≤ columns) × (columns ≤ factors.old.n))))) }
+    requires fits { StepFits selected columns factors.old y.old }
+    requires long { factors.old.n ≤ length v.old }
+    requires within { row < selected }
     ensures performed { StepPerformed row columns factors.old.n (backward_row (ieee binary64) numerics.epsilon numerics.tiny selected columns row)
         factors.old y.old v.old factors.new y.new v.new }
     ensures counted { result ≡ backward_row_count (ieee binary64) numerics.epsilon selected row (work_with factors.old y.old v.old) }
+    ensures few { result ≤ 1 }
 {
     let n = factors.n;
     let stride = factors.stride;
@@ -45,7 +48,12 @@ pub fn backward_row(
     v[selected] = pivot;
     v[row] = value;
     let diagonal = u_index(row, row, stride);
-    transform_slices(y, row, factors.u, diagonal, columns - row, transform);
+    // U's row is cut here and not by a method: that would need a contract on what it lends, and `columns` may be all columns or one fewer.
+    transform_slices(
+        &mut y[row..columns],
+        &mut factors.u[diagonal..diagonal + (columns - row)],
+        transform,
+    );
     transform_rows(factors.l, selected * stride, row * stride, n, transform);
     1
 }

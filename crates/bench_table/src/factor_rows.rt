@@ -39,7 +39,7 @@ impl Factors {
         p
     }
 
-    // The counter of the state is what the pushes made so far.
+    // The counter of the state is what the pushes made so far. The struct is taken apart: the check does not cover y, z and w lent out of one array.
     fn push(&mut self, row: &[f64], column: &[f64], diagonal: f64) {
         let Factors {
             state,
@@ -99,14 +99,12 @@ impl Factors {
 
     fn solve(&mut self, rhs: &mut [f64]) -> Result<(), Refusal> {
         let Factors { state, l, u, .. } = self;
-        let solved = state.solve_in_place(l, u, rhs);
-        solved.answer
+        state.solve_in_place(l, u, rhs).answer
     }
 
     fn solve_transpose(&mut self, rhs: &mut [f64]) -> Result<(), Refusal> {
         let Factors { state, l, u, .. } = self;
-        let solved = state.solve_transpose_in_place(l, u, rhs);
-        solved.answer
+        state.solve_transpose_in_place(l, u, rhs).answer
     }
 }
 
@@ -170,14 +168,14 @@ pub fn row_replaced(rt: &impl Print) -> io::Result<()> {
     )
 }
 
-fn article(is_moved: bool) -> &'static str {
-    if is_moved { "a" } else { "no" }
+fn article<T: Copy>(moved: Option<T>) -> &'static str {
+    moved.map_or("no", |_| "a")
 }
 
 // Prints what a remove moved.
 fn moved(rt: &impl Print, removal: Removal) -> io::Result<()> {
-    let row = article(removal.moved_row.is_some());
-    let column = article(removal.moved_column.is_some());
+    let row = article(removal.moved_row);
+    let column = article(removal.moved_column);
     print!(rt; ", {row} row moved, {column} column moved")
 }
 

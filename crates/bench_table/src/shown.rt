@@ -1,5 +1,5 @@
 // Numbers as the table shows them.
-use refusals::{Refusal, refusal_number};
+use refusals::Refusal;
 use std::fmt;
 
 // A double: NaN, an infinity, or its value to thousandths where that lies within 2^-10 and 2^20; otherwise its bits without the sign.
@@ -45,11 +45,10 @@ pub struct Refused(pub Refusal);
 
 impl fmt::Display for Refused {
     fn fmt<W: fmt::Write>(&self, f: &mut fmt::Formatter<W>) -> fmt::Result {
-        write!(f, "refused {}", refusal_number(self.0))?;
-        match self.0 {
-            Refusal::NonFiniteData(i) | Refusal::Singular(i) | Refusal::NonFiniteDiagonal(i) =>
-                write!(f, " at {i}"),
-            _ => Ok(()),
+        write!(f, "refused {}", u32::from(self.0))?;
+        match self.0.index() {
+            Some(i) => write!(f, " at {i}"),
+            None => Ok(()),
         }
     }
 }

@@ -6,7 +6,6 @@ use mathlib.Core.Logic.{◌≢◌, ⊎_elim}
 use Prim.Native.Nat.{ℕ, ◌*◌, ◌≤◌, ◌<◌}
 use native.Mathlib.Omega.{arith}
 use lib.Dec.{eqb, eqb→eq}
-use lib.ListN.{length}
 use Rattle.numbers.specs.NumberForm.{NumberForm}
 use Rattle.machine.specs.Tables.{Work}
 use Rattle.machine.specs.Forward.{transform_rows}
@@ -19,15 +18,10 @@ use Rattle.storage.proofs.Frames.{frame_all, frame_then}
 use Rattle.storage.proofs.Places.{l_index_injective}
 use Rattle.ranges.specs.Written.{from, Among}
 use Rattle.transforms.specs.RowsTransformed.{RowsTransformed}
-use Rattle.buffers.specs.Performed.{work_of, Room, Performed}
+use Rattle.buffers.specs.Performed.{work_of, Performed}
 
 module _ (N : NumberForm) where
   open N use {Value}
-
-  -- ---- room
-
-  pub room_kept : {c n : ℕ} {l u l' u' : List Value} → Room N c n l u → length l' ≡ length l → length u' ≡ length u → Room N c n l' u'
-  room_kept r hl hu = record { stride = r.stride; dimension = r.dimension; l_long = rw hl r.l_long; u_long = rw hu r.u_long }
 
   -- ---- composition
 

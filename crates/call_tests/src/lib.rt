@@ -17,6 +17,7 @@ ghost use Rattle.refusals.specs.Refusal.{refusal_of, test_of};
 
 use lent_data::{test_push_data, test_values};
 use managed::LentLengths;
+use matrices::packed_u::PackedU;
 use refusals::{Refusal, test_diagonals, test_lent, test_storage};
 
 // Push: 4, 7, 23, 8.
@@ -104,5 +105,9 @@ pub fn test_solve(n: usize, capacity: usize, l: usize, u: &[f64], rhs: usize) ->
     if rhs != n {
         return Err(Refusal::LengthMismatch);
     }
-    test_diagonals(n, capacity, u)
+    test_diagonals(PackedU {
+        n,
+        stride: capacity,
+        entries: u,
+    })
 }

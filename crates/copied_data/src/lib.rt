@@ -3,11 +3,9 @@
 
 ghost use Rattle.std.specs.Prelude.{◌-◌, ◌≤◌, ◌<◌, length};
 ghost use Rattle.std.specs.Float.{binary64};
-ghost use Rattle.numbers.specs.NumberForm.{ieee};
 ghost use Rattle.numbers.specs.Tolerances.{managed_epsilon, managed_tiny};
 ghost use Rattle.machine.specs.Calls as calls;
-ghost use Rattle.storage.specs.Updated.{CarriedOut};
-ghost use Rattle.factors.specs.SameStorage.{SameStorage};
+ghost use Rattle.factors.specs.UpdateCarriedOut.{UpdateCarriedOut};
 
 use factors::Factors;
 use numerics::tolerance::managed;
@@ -25,14 +23,11 @@ pub fn push(
 ) -> usize
     requires { (factors.old.n ≤ length y.old) × ((factors.old.n - 1 ≤ length w.old) × ((factors.old.n - 1 ≤ length row.now)
         × ((factors.old.n - 1 ≤ length column.now) × (0 < factors.old.n)))) }
-    ensures carried_out { CarriedOut (ieee binary64) (managed_epsilon binary64) (managed_tiny binary64) factors.old.stride (factors.old.n - 1) factors.old.n
-        (calls.push row.now column.now diagonal)
-        factors.old.l.now factors.old.u.now y.old column.now w.old
-        factors.new.l.now factors.new.u.now y.new column.now w.new result }
-    ensures same_storage { SameStorage factors.old factors.new }
+    ensures { UpdateCarriedOut (managed_epsilon binary64) (managed_tiny binary64) (factors.old.n - 1) (calls.push row.now column.now diagonal)
+        factors.old y.old column.now w.old factors.new y.new column.now w.new result }
 {
     let n = factors.n - 1;
-    copy(y, 0, row, 0, n);
+    copy(&mut y[..n], &row[..n]);
     y[n] = diagonal;
     update_push::push(factors, y, column, w, managed())
 }
@@ -46,15 +41,12 @@ pub fn replace_row(
     w: &mut [f64],
     values: &[f64],
 ) -> usize
-    requires { (factors.old.n ≤ length y.old) × ((factors.old.n ≤ length z.old) × ((factors.old.n ≤ length w.old) × ((factors.old.n ≤ length values.now)
-        × (row < factors.old.n)))) }
-    ensures carried_out { CarriedOut (ieee binary64) (managed_epsilon binary64) (managed_tiny binary64) factors.old.stride factors.old.n factors.old.n
-        (calls.replace_row row values.now)
-        factors.old.l.now factors.old.u.now y.old z.old w.old
-        factors.new.l.now factors.new.u.now y.new z.new w.new result }
-    ensures same_storage { SameStorage factors.old factors.new }
+    requires { (factors.old.n ≤ length y.old) × ((factors.old.n ≤ length z.old) × ((factors.old.n ≤ length w.old)
+        × ((factors.old.n ≤ length values.now) × (row < factors.old.n)))) }
+    ensures { UpdateCarriedOut (managed_epsilon binary64) (managed_tiny binary64) factors.old.n (calls.replace_row row values.now)
+        factors.old y.old z.old w.old factors.new y.new z.new w.new result }
 {
     let n = factors.n;
-    copy(y, 0, values, 0, n);
+    copy(&mut y[..n], &values[..n]);
     update_row::replace_row(row, factors, y, z, w, managed())
 }

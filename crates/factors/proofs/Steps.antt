@@ -15,9 +15,6 @@ use Rattle.factors.specs.StepPerformed.{work_with, StepPerformed}
 abbrev N : NumberForm
 N = ieee binary64
 
-pub same_storage_refl : {a : Factors} → SameStorage a a
-same_storage_refl = record { dimension = refl; stride = refl; l = refl; u = refl }
-
 pub same_here : {a b : Factors} → b.n ≡ a.n → b.stride ≡ a.stride → b.l.ghost_name ≡ a.l.ghost_name → b.u.ghost_name ≡ a.u.ghost_name → SameStorage a b
 same_here n c l u = record { dimension = n; stride = c; l = l; u = u }
 
@@ -25,7 +22,7 @@ pub same_storage_then : {a b d : Factors} → SameStorage a b → SameStorage b 
 same_storage_then p q = record { dimension = q.dimension ∙ p.dimension; stride = q.stride ∙ p.stride; l = q.l ∙ p.l; u = q.u ∙ p.u }
 
 pub step_none : {a : Factors} {lo hi k : ℕ} {y v : List Float} → StepPerformed lo hi k (λ S. S) a y v a y v
-step_none = record { performed = performed_none N; same_storage = same_storage_refl }
+step_none = record { performed = performed_none N; same_storage = same_here refl refl refl refl }
 
 -- f and then g, where g's result depends only on what f's contract gives
 pub step_then : {a b d : Factors} {lo lo₁ lo' hi k : ℕ} {f g : Work Float → Work Float} {y v y₁ v₁ y₂ v₂ : List Float}

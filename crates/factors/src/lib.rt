@@ -1,10 +1,13 @@
-// The factors that an update changes, in the storage that is lent to it.
+// The factors that an update changes, in the storage that is lent to it; parts.rt has the parts that are written at once.
 #![tactic(auto)]
 
 ghost use Rattle.std.specs.Prelude.{◌*◌, ◌^◌, ◌≤◌, ◌<◌, length};
 ghost use Rattle.storage.specs.Places.{u_length};
 
-// Factors of dimension n in lent storage of a stride, which has room for them.
+mod parts;
+
+// Factors of dimension n in lent storage of a stride, which has room for them. The stride is the capacity of the managed interface, and in the zero-based
+// interface the larger of maxmod and 1.
 #[derive(Drop)]
 pub struct Factors<'a> {
     pub n: usize,

@@ -1,19 +1,51 @@
--- A row of U, from its diagonal on, as a range of the slice.
-use mathlib.Core.Path.{◌≡◌, ap}
-use mathlib.Core.List.{List}
-use Prim.Native.Nat.{ℕ, ◌+◌, ◌-◌, ◌≤◌, ◌<◌}
+-- A test of all rows, made one row after another.
+use mathlib.Core.Path.{◌≡◌, refl, sym, ap, ◌∙◌}
+use mathlib.Core.Bool.{Bool, ◌&&◌, and-true, and_assoc}
+use mathlib.Core.List.{List, [], ◌∷◌}
+use Prim.Native.Nat.{ℕ, zero, suc, ◌+◌}
+use native.Mathlib.Nat.{zero-add}
 use native.Mathlib.Omega.{arith}
+use lib.ListN.{length}
+use Rattle.std.specs.List.{fold, list_all, range_with_len}
 use Rattle.numbers.specs.NumberForm.{NumberForm}
+use Rattle.machine.specs.Tables.{Table, tabulate}
 use Rattle.machine.specs.Products.{entry}
 use Rattle.machine.specs.Readiness.{all_below}
+use Rattle.machine.proofs.Choice.{tabulate_at, tabulate_length}
 use Rattle.machine.proofs.Readiness.{same_below}
-use Rattle.storage.specs.Places.{u_index}
-use Rattle.storage.specs.Views.{view_u}
-use Rattle.ranges.proofs.RowParts.{part_place}
 
-module _ (N : NumberForm) (c n i p : ℕ) (u : List N.Value) (below : i < n) (fits : n ≤ c) (is-p : p ≡ u_index c i i) where
-  open N use {is_finite}
+-- the first place before the others
+first_below : (k : ℕ) (test : ℕ → Bool) → all_below (suc k) test ≡ (test 0 && all_below k (λ i. test (suc i)))
+unfolding all_below
+first_below zero test = sym (and-true (test 0))
+first_below (suc k) test = (λ t. first_below k test t && test (suc k)) ∙ and_assoc (test 0) _ _
 
-  pub row_of_U : all_below (n - i) (λ k. is_finite (entry N u (p + k))) ≡ all_below (n - i) (λ k. is_finite (view_u N c u i (i + k)))
-  row_of_U =
-      same_below (n - i) _ _ (λ k h. ap (λ (q : ℕ). is_finite (entry N u q)) (part_place c i i (n - i) p (omega arith) (omega arith) is-p k h))
+-- the numbers from `start` on
+all_from : (count start : ℕ) (test : ℕ → Bool) → list_all test (range_with_len start count) ≡ all_below count (λ i. test (start + i))
+unfolding all_below
+all_from zero start test = refl
+all_from (suc n) start test =
+    let here : start ≡ start + 0 = omega arith in
+    let others = all_from n (start + 1) test ∙ same_below n _ _ (λ i h. let e : start + 1 + i ≡ start + suc i = omega arith in ap test e) in
+    (λ t. test (here t) && others t) ∙ sym (first_below n (λ i. test (start + i)))
+
+module _ (N : NumberForm) where
+  open N use {Value, is_finite}
+
+  -- whether a list's entries are finite
+  abbrev pub finite_list : List Value → Bool
+  finite_list xs = all_below (length xs) (λ k. is_finite (entry N xs k))
+
+  -- the test of one entry after another
+  pub folded_finite : (xs : List Value) (all : Bool) → fold (λ b x. b && is_finite x) all xs ≡ (all && finite_list xs)
+  unfolding all_below
+  folded_finite [] all = sym (and-true all)
+  folded_finite (x ∷ xs) all =
+      folded_finite xs (all && is_finite x) ∙ and_assoc all _ _ ∙ (λ t. all && sym (first_below (length xs) (λ k. is_finite (entry N (x ∷ xs) k))) t)
+
+  -- n rows, of which row i has width i entries
+  pub finite_rows : (n : ℕ) (width : ℕ → ℕ) (T : Table Value) → list_all (λ i. finite_list (tabulate (width i) (T i))) (range_with_len 0 n)
+      ≡ all_below n (λ i. all_below (width i) (λ k. is_finite (T i k)))
+  finite_rows n width T =
+      all_from n 0 _ ∙ same_below n _ _ (λ i h.
+      rw (zero-add i, tabulate_length (width i) (T i)) (same_below (width i) _ _ (λ k l. ap is_finite (tabulate_at (width i) (T i) N.absent k l))))

@@ -13,7 +13,6 @@ use Rattle.machine.specs.Forward.{copy_dense_to_row, forward_row, forward_rows}
 use Rattle.machine.specs.Agreement.{AgreeWithin}
 use Rattle.machine.specs.Counts.{forward_row_count, forward_rows_count}
 use Rattle.machine.proofs.Choice.{pick, in_range}
-use Rattle.machine.proofs.CountLimits.{forward_row_count_le, forward_rows_count_le}
 use Rattle.machine.proofs.Counts.{forward_row_count_same}
 use Rattle.storage.specs.Places.{u_index}
 use Rattle.storage.specs.Views.{view_u}
@@ -44,13 +43,6 @@ module _ (N : NumberForm) where
     pub forward_count_none : (S : Work Value) → 0 ≡ forward_rows_count N E T start last columns (start - start) S
     unfolding forward_rows_count
     forward_count_none S = let e : start - start ≡ 0 = omega arith in rw e
-
-    -- a row takes one pair step at most
-    pub row_counted_le : (row : ℕ) (S : Work Value) {a : ℕ} → a ≡ forward_row_count N E row S → a ≤ 1
-    row_counted_le row S is-a = omega (arith, is-a, forward_row_count_le N E row S)
-
-    pub rows_counted_le : (d : ℕ) (S : Work Value) {a : ℕ} → a ≡ forward_rows_count N E T start last columns d S → a ≤ d
-    rows_counted_le d S is-a = omega (arith, is-a, forward_rows_count_le N E T start last columns d S)
 
     -- S is what the rows before have left of R
     pub forward_count_more : (n row : ℕ) (R : Work Value) {a b : ℕ} {S : Work Value} → columns ≤ n → start ≤ row → row < columns → a ≡ forward_rows_count N E T start last columns (row - start) R

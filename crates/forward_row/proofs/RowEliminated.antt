@@ -19,8 +19,8 @@ use Rattle.storage.specs.Places.{u_index}
 use Rattle.storage.specs.Views.{view_u}
 use Rattle.storage.proofs.Kept.{kept_all, kept_set, kept_then, kept_more}
 use Rattle.storage.proofs.Places.{u_index_along, u_index_injective}
-use Rattle.ranges.specs.Written.{from, Written}
 use Rattle.transforms.specs.RowsTransformed.{RowsTransformed}
+use Rattle.transforms.proofs.Pairs.{RangesTransformed}
 use Rattle.ranges.proofs.RowParts.{part_place, outside_part, part_free}
 use Rattle.buffers.specs.Performed.{work_of, Performed}
 use Rattle.buffers.proofs.Buffers.{l_transformed, l_transformed_kept}
@@ -34,8 +34,7 @@ module _ (N : NumberForm) where
   module _ (c n columns row last d : ℕ) (l u y : List Value) {l' u' y' : List Value} (x z : Value) (swap : Bool) (m : Value)
       (hc : n ≤ c) (hk : columns ≤ n) (hr : row < last) (hl : last < n) (hl' : last ≤ columns) (is-d : d ≡ u_index c row row) (d-fits : d < length u) (y-long : columns ≤ length y)
       (cleared : z ≡ 𝟎)
-      (us : Written N (from (d + 1)) (columns - (row + 1)) (λ k. first N swap (entry N (set u d x) (d + 1 + k)) (entry N (set y row z) (row + 1 + k))) (set u d x) u')
-      (ys : Written N (from (row + 1)) (columns - (row + 1)) (λ k. second N swap m (entry N (set u d x) (d + 1 + k)) (entry N (set y row z) (row + 1 + k))) (set y row z) y')
+      (pairs : RangesTransformed N swap m (d + 1) (row + 1) (columns - (row + 1)) (set u d x) (set y row z) u' y')
       (ls : RowsTransformed N swap m (row * c) (last * c) n l l') where
     next : d + 1 ≡ u_index c row (row + 1)
     next = ap (λ (q : ℕ). q + 1) is-d ∙ sym (u_index_along c row row 1 (omega arith) (omega arith))
@@ -43,7 +42,7 @@ module _ (N : NumberForm) where
     -- outside the diagonal and the rest of the row
     u_other : (i j : ℕ) → i ≤ j → j < n → ((i ≡ row) → (j < row) ⊎ (columns ≤ j)) → view_u N c u' i j ≡ view_u N c u i j
     u_other i j hij hj out =
-        us.kept.same _ (outside_part c row (row + 1) (columns - (row + 1)) (d + 1) (omega arith) (omega arith) next i j hij (omega arith)
+        pairs.0.kept.same _ (outside_part c row (row + 1) (columns - (row + 1)) (d + 1) (omega arith) (omega arith) next i j hij (omega arith)
         (λ k h e f. ⊎_elim (λ a. omega arith) (λ a. omega arith) (out e)))
         ∙ get_or-set_other u d _ x absent (λ e.
         let q = u_index_injective c i j row row hij (omega arith) (omega arith) (omega arith) (e ∙ is-d) in
@@ -51,14 +50,14 @@ module _ (N : NumberForm) where
 
     y_other : (j : ℕ) → (j < row) ⊎ (columns ≤ j) → entry N y' j ≡ entry N y j
     y_other j out =
-        ys.kept.same j (λ w. ⊎_elim (λ a. omega arith) (λ a. omega arith) out) ∙ get_or-set_other y row j z absent (λ e. ⊎_elim (λ a. omega arith) (λ a. omega arith) out)
+        pairs.1.kept.same j (λ w. ⊎_elim (λ a. omega arith) (λ a. omega arith) out) ∙ get_or-set_other y row j z absent (λ e. ⊎_elim (λ a. omega arith) (λ a. omega arith) out)
 
     pivot_u : view_u N c u' row row ≡ x
     pivot_u =
-        rw (← is-d) (us.kept.same d (λ w. omega arith) ∙ get_or-set_same u d x absent d-fits)
+        rw (← is-d) (pairs.0.kept.same d (λ w. omega arith) ∙ get_or-set_same u d x absent d-fits)
 
     pivot_y : entry N y' row ≡ 𝟎
-    pivot_y = ys.kept.same row (λ w. omega arith) ∙ get_or-set_same y row z absent (omega arith) ∙ cleared
+    pivot_y = pairs.1.kept.same row (λ w. omega arith) ∙ get_or-set_same y row z absent (omega arith) ∙ cleared
 
     module _ (j : ℕ) (h : row < j) (g : j < columns) where
       back : row + 1 + (j - (row + 1)) ≡ j
@@ -74,10 +73,10 @@ module _ (N : NumberForm) where
       old_y = get_or-set_other y row _ z absent (λ e. omega arith) ∙ ap (entry N y) back
 
       rest_u : view_u N c u' row j ≡ first N swap (view_u N c u row j) (entry N y j)
-      rest_u = ap (entry N u') (sym place) ∙ us.value (j - (row + 1)) (omega arith) ∙ (λ t. first N swap (old_u t) (old_y t))
+      rest_u = ap (entry N u') (sym place) ∙ pairs.0.value (j - (row + 1)) (omega arith) ∙ (λ t. first N swap (old_u t) (old_y t))
 
       rest_y : entry N y' j ≡ second N swap m (view_u N c u row j) (entry N y j)
-      rest_y = ap (entry N y') (sym back) ∙ ys.value (j - (row + 1)) (omega arith) ∙ (λ t. second N swap m (old_u t) (old_y t))
+      rest_y = ap (entry N y') (sym back) ∙ pairs.1.value (j - (row + 1)) (omega arith) ∙ (λ t. second N swap m (old_u t) (old_y t))
 
     transformed_u : (i j : ℕ) → i ≤ j → j < n → view_u N c u' i j ≡ (forward_transform N last columns row (step_of x swap m) (work_of N c l u y [])).U i j
     unfolding forward_transform
@@ -112,8 +111,8 @@ module _ (N : NumberForm) where
       frame = record {
         l_kept = l_transformed_kept N c n row last hc (omega arith) hl ls;
         u_kept = kept_then N (kept_set N u d x (row, row, omega arith, omega arith, is-d))
-            (kept_more N (part_free c row (row + 1) (columns - (row + 1)) (d + 1) (omega arith) (omega arith) next n (omega arith)) us.kept);
-        y_kept = kept_then N (kept_set N y row z (omega arith)) (kept_more N (λ q w. omega arith) ys.kept);
+            (kept_more N (part_free c row (row + 1) (columns - (row + 1)) (d + 1) (omega arith) (omega arith) next n (omega arith)) pairs.0.kept);
+        y_kept = kept_then N (kept_set N y row z (omega arith)) (kept_more N (λ q w. omega arith) pairs.1.kept);
         z_kept = kept_all N;
         w_kept = kept_all N;
       };

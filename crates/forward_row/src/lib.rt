@@ -1,11 +1,12 @@
 // One row of Forward on factors in lent storage.
 #![tactic(auto)]
 
-ghost use Rattle.std.specs.Prelude.{◌≡◌, [], ◌≤◌, ◌<◌, length};
+ghost use Rattle.std.specs.Prelude.{◌≡◌, [], ◌≤◌, ◌<◌};
 ghost use Rattle.std.specs.Float.{binary64};
 ghost use Rattle.numbers.specs.NumberForm.{ieee};
 ghost use Rattle.machine.specs.Forward.{forward_row};
 ghost use Rattle.machine.specs.Counts.{forward_row_count};
+ghost use Rattle.factors.specs.StepFits.{StepFits};
 ghost use Rattle.factors.specs.StepPerformed.{work_with, StepPerformed};
 
 use factors::Factors;
@@ -25,10 +26,12 @@ pub fn forward_row(
     y: &mut [f64],
     numerics: Numerics,
 ) -> usize
-    requires { (columns ≤ length y.old) × ((row < last) × ((last < factors.old.n) × ((last ≤ columns) × (columns ≤ factors.old.n)))) }
+    requires fits { StepFits last columns factors.old y.old }
+    requires within { row < last }
     ensures performed { StepPerformed 0 columns 0 (forward_row (ieee binary64) numerics.epsilon numerics.tiny last columns row)
         factors.old y.old [] factors.new y.new [] }
     ensures counted { result ≡ forward_row_count (ieee binary64) numerics.epsilon row (work_with factors.old y.old []) }
+    ensures few { result ≤ 1 }
 {
     let n = factors.n;
     let stride = factors.stride;
@@ -40,12 +43,10 @@ pub fn forward_row(
         let transform = elementary(&mut pivot, &mut value, numerics.tiny);
         factors.u[diagonal] = pivot;
         y[row] = value;
+        // U's row is cut here and not by a method: that would need a contract on what it lends, and `columns` may be all columns or one fewer.
         transform_slices(
-            factors.u,
-            diagonal + 1,
-            y,
-            row + 1,
-            columns - (row + 1),
+            &mut factors.u[diagonal + 1..diagonal + (columns - row)],
+            &mut y[row + 1..columns],
             transform,
         );
         transform_rows(factors.l, row * stride, last * stride, n, transform);

@@ -23,7 +23,8 @@ pub fn test_values(values: &[f64], first: usize) -> Result<(), Refusal>
     }
 }
 
-// Those of a push: the row's, then the column's, then the diagonal's.
+// Those of a push: the row's, then the column's, then the diagonal's. Three searches: in Rust, one over a chain of the three takes almost twice as long at
+// dimension 100.
 #[tactic(auto, using(machine::proofs::LentData::push_in_parts), unfolding(machine::specs::LentData::first_non_finite))]
 pub fn test_push_data(row: &[f64], column: &[f64], diagonal: f64) -> Result<(), Refusal>
     requires { length row.now + length column.now < 2 ^ 64 }

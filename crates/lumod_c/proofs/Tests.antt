@@ -1,4 +1,4 @@
--- What the outcome of a call comes to: refused with 11, refused with 12, or performed.
+-- What the outcome of a call that is refused comes to: with 11, or with 12.
 use mathlib.Core.Path.{◌≡◌, sym}
 use mathlib.Core.Bool.{Bool, true, false}
 use mathlib.Core.Option.{Option}
@@ -26,11 +26,4 @@ module _ (a b : Bool) {Untouched Performed : Type 0} where
     number = λ t. refusal_number (chain (sym e t) (sym f t));
     refused = λ r _. h;
     accepted = λ g. absurd (none_is_some g (λ t. chain (e t) (f t)));
-  }
-
-  pub outcome_0 : a ≡ false → b ≡ false → Performed → Outcome (chain a b) Untouched Performed 0
-  outcome_0 e f h = record {
-    number = λ t. refusal_number (chain (sym e t) (sym f t));
-    refused = λ r g. absurd (none_is_some (λ t. chain (e t) (f t)) g);
-    accepted = λ _. h;
   }

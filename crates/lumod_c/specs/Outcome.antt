@@ -15,11 +15,15 @@ use Rattle.zero_based_tests.specs.Update.{update_of}
 use Rattle.lumod_c.specs.declared.Refusal.{Refusal}
 use Rattle.lumod_c.specs.declared.Refusal.TheVariants.{PassedOver, LacksRoom}
 
--- what a call returns: 0 where it was performed, 11 where it was passed over, 12 where a buffer is too short
+-- 11 where a call was passed over, 12 where a buffer is too short
+abbrev pub refusal_value : Refusal → ℕ
+refusal_value PassedOver = 11
+refusal_value LacksRoom = 12
+
+-- what a call returns: 0 where it was performed, or its refusal's number
 abbrev pub outcome_number : Result (Unit {0}) Refusal → ℕ
 outcome_number (Ok performed) = 0
-outcome_number (Err PassedOver) = 11
-outcome_number (Err LacksRoom) = 12
+outcome_number (Err refused) = refusal_value refused
 
 -- A call that a test refuses returns the refusal's number and leaves all untouched; any other returns 0 and is performed.
 pub record Outcome (refusal : Option Answer) (Untouched Performed : Type 0) (answer : ℕ) : Type 0 where

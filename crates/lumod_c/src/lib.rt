@@ -5,20 +5,42 @@ ghost use Rattle.std.specs.Prelude.{◌≡◌};
 ghost use Rattle.std.specs.Float.{binary64};
 ghost use Rattle.numbers.specs.NumberForm.{ieee};
 ghost use Rattle.numbers.specs.Tolerances.{zero_based_epsilon, zero_based_tiny};
-ghost use Rattle.lumod_c.specs.Outcome.{ProductOutcome, SolveOutcome, UpdateOutcome, outcome_number};
+ghost use Rattle.lumod_c.specs.declared.Refusal.TheVariants as refusal;
+ghost use Rattle.lumod_c.specs.Outcome.{ProductOutcome, SolveOutcome, UpdateOutcome, refusal_value, outcome_number};
 
 use factors::Factors;
 use host_numbers::{size, stride};
+use matrices::dense_l::DenseL;
+use matrices::packed_u::PackedU;
 use products::{l_product, l_product_transposed};
 use substitutions::{back_substitute, forward_substitute};
-use zero_based_tests::{product_lacks_room, solve_lacks_room, update_lacks_room, update_named};
+use zero_based_tests::{LacksRoom, product_room, solve_room, update_named, update_room};
 use zero_based_updates::perform;
 
 // Why a call is refused: n, the mode or an index is out of range, or a buffer is too short.
-#[derive(Clone, Copy)]
+#[derive(Clone, Copy, Debug, PartialEq, Eq)]
 enum Refusal {
     PassedOver,
     LacksRoom,
+}
+
+impl From<LacksRoom> for Refusal {
+    ghost from_gives = { λ _ r. r ≡ refusal.LacksRoom };
+
+    fn from(_lacks_room: LacksRoom) -> Refusal {
+        Refusal::LacksRoom
+    }
+}
+
+impl From<Refusal> for u32 {
+    ghost from_gives = { λ refused number. number ≡ refusal_value refused };
+
+    fn from(refusal: Refusal) -> u32 {
+        match refusal {
+            Refusal::PassedOver => 11,
+            Refusal::LacksRoom => 12,
+        }
+    }
 }
 
 // What a call returns to the host.
@@ -27,8 +49,7 @@ fn number(outcome: Result<(), Refusal>) -> u32
 {
     match outcome {
         Ok(()) => 0,
-        Err(Refusal::PassedOver) => 11,
-        Err(Refusal::LacksRoom) => 12,
+        Err(refusal) => refusal.into(),
     }
 }
 
@@ -89,7 +110,7 @@ fn update(
     let dimension = size(n);
     let update = update_named(mode, dimension, krow, kcol).ok_or(Refusal::PassedOver)?;
     let capacity = stride(maxmod);
-    if update_lacks_room(
+    update_room(
         dimension,
         capacity,
         l.len(),
@@ -97,9 +118,7 @@ fn update(
         y.len(),
         z.len(),
         w.len(),
-    ) {
-        return Err(Refusal::LacksRoom);
-    }
+    )?;
     let mut factors = Factors {
         n: dimension,
         stride: capacity,
@@ -127,18 +146,22 @@ fn product(
         return Err(Refusal::PassedOver);
     }
     let capacity = stride(maxmod);
-    if product_lacks_room(dimension, capacity, l.len(), y.len(), z.len()) {
-        return Err(Refusal::LacksRoom);
-    }
+    product_room(dimension, capacity, l.len(), y.len(), z.len())?;
+    let l = DenseL {
+        n: dimension,
+        stride: capacity,
+        entries: l,
+    };
     if mode == 1 {
-        l_product(dimension, capacity, l, y, z);
+        l_product(l, y, z);
     } else {
-        l_product_transposed(dimension, capacity, l, y, z);
+        l_product_transposed(l, y, z);
     }
     Ok(())
 }
 
 // What Usolve does. A mode is a number of the C interface: 1 is plain, any other transposed.
+// It begins as Lprod does: a function for both beginnings would need a contract and answers longer than they are.
 #[tactic(auto, unfolding(zero_based_tests::specs::Refusals::solve_lacks_room, crate::specs::Outcome::solve_of))]
 fn solve(mode: i32, maxmod: i32, n: i32, u: &[f64], y: &mut [f64]) -> Result<(), Refusal>
     ensures { SolveOutcome (ieee binary64) mode maxmod n u.now y.old y.new (outcome_number result) }
@@ -148,13 +171,16 @@ fn solve(mode: i32, maxmod: i32, n: i32, u: &[f64], y: &mut [f64]) -> Result<(),
         return Err(Refusal::PassedOver);
     }
     let capacity = stride(maxmod);
-    if solve_lacks_room(dimension, capacity, u.len(), y.len()) {
-        return Err(Refusal::LacksRoom);
-    }
+    solve_room(dimension, capacity, u.len(), y.len())?;
+    let u = PackedU {
+        n: dimension,
+        stride: capacity,
+        entries: u,
+    };
     if mode == 1 {
-        back_substitute(dimension, capacity, u, y);
+        back_substitute(u, y);
     } else {
-        forward_substitute(dimension, capacity, u, y);
+        forward_substitute(u, y);
     }
     Ok(())
 }

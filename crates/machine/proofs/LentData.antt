@@ -2,10 +2,8 @@
 use mathlib.Core.Path.{◌≡◌, refl, sym, ap, ◌∙◌}
 use mathlib.Core.Bool.{Bool, true, false}
 use mathlib.Core.List.{List, [], ◌∷◌, ◌++◌}
-use mathlib.Core.Logic.{⊎_elim}
 use mathlib.Core.Option.{Option, none, some}
 use Prim.Native.Nat.{ℕ, zero, suc, ◌+◌, ◌<◌}
-use native.Mathlib.Nat.{eq-or-lt_of_le}
 use native.Mathlib.Omega.{arith}
 use lib.ListN.{length, get_or}
 use Rattle.numbers.specs.NumberForm.{NumberForm}
@@ -45,10 +43,6 @@ module _ (N : NumberForm) where
   first_named k (x ∷ xs) zero l h e = non_finite_first k x xs e ∙ ap named (omega arith)
   first_named k (x ∷ xs) (suc i) l h e =
       finite_first k x xs (h zero (omega arith)) ∙ first_named (suc k) xs i (omega arith) (λ j m. h (suc j) (omega arith)) e ∙ ap named (omega arith)
-
-  -- a search upward: one more place whose value is finite
-  pub one_more_finite : (xs : List Value) (k : ℕ) → ((j : ℕ) → j < k → finite_at xs j ≡ true) → finite_at xs k ≡ true → (j : ℕ) → j < k + 1 → finite_at xs j ≡ true
-  one_more_finite xs k h e j l = ⊎_elim (λ p. ap (finite_at xs) p ∙ e) (h j) (eq-or-lt_of_le (omega arith))
 
   -- ---- from what is named to the values
 
@@ -114,10 +108,6 @@ module _ (N : NumberForm) where
       go false p rest = non_finite_first k x (xs ++ ys) p ∙ (λ t. sym (non_finite_first k x xs p) t or_else first_non_finite N (k + suc (length xs)) ys)
 
   -- ---- a push
-
-  pub single_finite : (k : ℕ) (d : Value) → is_finite d ≡ true → first_non_finite N k (d ∷ []) ≡ none
-  unfolding first_non_finite
-  single_finite k d e = finite_first k d [] e
 
   -- the row, then the column, then the diagonal
   pub push_in_parts : (row column : List Value) (d : Value)

@@ -1,6 +1,6 @@
--- `isReady` is what `Ready` says by entries, in both directions, and reads nothing but active entries.
+-- `is_ready` is what `Ready` says by entries, in both directions, and reads nothing but active entries.
 use mathlib.Core.Path.{◌≡◌, refl, sym, ap, ◌∙◌, subst}
-use mathlib.Core.Bool.{Bool, true, false, true≢false, ◌&&◌, and-eq-true_iff}
+use mathlib.Core.Bool.{Bool, true, ◌&&◌, and-eq-true_iff}
 use mathlib.Core.Logic.{⊎_elim, ◌↔◌}
 use mathlib.Core.Option.{Option, none, some}
 use Prim.Native.Nat.{ℕ, zero, suc, ◌+◌, ◌-◌, ◌≤◌, ◌<◌}
@@ -11,7 +11,6 @@ use lib.Dec.{T as So}
 use Rattle.numbers.specs.NumberForm.{NumberForm}
 use Rattle.machine.specs.Tables.{Table, State}
 use Rattle.machine.specs.Solves.{diagonals}
-use Rattle.machine.specs.Calls.{Answer}
 use Rattle.machine.specs.Agreement.{Agree}
 use Rattle.machine.specs.Readiness.{is_none, all_below, Ready, finite_l, finite_u, is_ready}
 use Rattle.machine.proofs.Diagonals.{all_sound, none_if_sound}
@@ -40,7 +39,7 @@ unfolding all_below
 same_below zero test test' h = refl
 same_below (suc k) test test' h = λ t. same_below k test test' (λ i l. h i (omega arith)) t && h k (omega arith) t
 
--- a search upward: no place yet, one more, and one where the test does not hold
+-- a search upward: no place yet, and one more
 pub none_below : (test : ℕ → Bool) → true ≡ all_below 0 test
 unfolding all_below
 none_below test = refl
@@ -48,13 +47,6 @@ none_below test = refl
 pub one_more_below : (k : ℕ) (test : ℕ → Bool) (b x : Bool) → b ≡ all_below k test → x ≡ test k → (b && x) ≡ all_below (k + 1) test
 unfolding all_below
 one_more_below k test b x e f = rw add-one (λ t. e t && f t)
-
-pub false_below : (k i : ℕ) (test : ℕ → Bool) → i < k → test i ≡ false → all_below k test ≡ false
-false_below k i test h e = go (all_below k test) refl
-  where
-    go : (b : Bool) → all_below k test ≡ b → all_below k test ≡ false
-    go true p = absurd (true≢false (sym (holds_below k test p i h) ∙ e))
-    go false p = p
 
 module _ (N : NumberForm) where
   open N use {Value, is_finite}
@@ -84,17 +76,6 @@ module _ (N : NumberForm) where
 
   pub ready_exactly : (S : State Value) → (is_ready N S ≡ true) ↔ Ready N S
   ready_exactly S = (ready_only_if S, ready_if S)
-
-  -- ---- the diagonals first
-
-  module _ (S : State Value) where
-    pub ready_by_entries : diagonals N S.U S.n ≡ none → (finite_l N S.n S.L && finite_u N S.n S.U) ≡ is_ready N S
-    unfolding is_ready
-    ready_by_entries d = λ t. is_none (sym d t) && (finite_l N S.n S.L && finite_u N S.n S.U)
-
-    pub not_ready_by_diagonal : (a : Answer) → diagonals N S.U S.n ≡ some a → false ≡ is_ready N S
-    unfolding is_ready
-    not_ready_by_diagonal a d = λ t. is_none (sym d t) && (finite_l N S.n S.L && finite_u N S.n S.U)
 
   -- ---- nothing but active entries is read
 

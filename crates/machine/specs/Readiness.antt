@@ -1,4 +1,4 @@
--- Ready, document 02 (d): no diagonal is refused and every active entry of L and U is finite. It is said by entries (`Ready`) and computed (`isReady`);
+-- Ready, document 02 (d): no diagonal is refused and every active entry of L and U is finite. It is said by entries (`Ready`) and computed (`is_ready`);
 -- proofs/Readiness.antt shows that the two are the same. Below stand computed lines.
 use Rattle.std.specs.Prelude.{◌≡◌, refl, Bool, true, false, ◌&&◌, List, [], ◌∷◌, ℕ, zero, suc, ◌+◌, ◌-◌, ◌≤◌, ◌<◌, get_or, Float}
 use Rattle.std.proofs.Math.Option.{Option, none, some}

@@ -22,7 +22,7 @@ use Rattle.managed.specs.Outcome.{Report, result_of, Outcome}
 use Rattle.managed.specs.Lists.{Event, Setting, Claim}
 
 -- What is asked of a solve whose storage and length are right, by U of dimension n and the refusal o that the call gets: none exactly when no active diagonal
--- is zero, infinite or NaN (`badDiagonal`), and otherwise the first such index is named.
+-- is zero, infinite or NaN (`bad_diagonal`), and otherwise the first such index is named.
 pub record RefusedByDiagonal (N : NumberForm) (U : Table N.Value) (n : ℕ) (o : Option Answer) : Type 0 where
   pub accepted_if : ((i : ℕ) → i < n → bad_diagonal N (U i i) i ≡ none) → o ≡ none
   pub only_if : o ≡ none → (i : ℕ) → i < n → bad_diagonal N (U i i) i ≡ none
@@ -52,7 +52,7 @@ module _ (F : Format) where
 
   -- ---- the counter
 
-  -- What is asked of a call c that took the instance s to t and answered k pair steps. (That the counter is 0 at adoption stands in `adoptedUnder`.)
+  -- What is asked of a call c that took the instance s to t and answered k pair steps. (That the counter is 0 at adoption stands in `adopted_under`.)
   pub record Counted (c : Call Float) (s t : Instance Float) (k : ℕ) : Type 0 where
     -- each managed update adds its pair steps to the counter, which stops at 999,999, a larger figure counting as that, and answers its own exact number; a
     -- solve makes none and leaves the counter
@@ -78,7 +78,7 @@ module _ (F : Format) where
       → Setting (ieee F) (managed_epsilon F) (managed_tiny F) cs S S₁ S₂ capacity₁ capacity₂ es₁ es₂
       → Claim (ieee F) (managed_epsilon F) (managed_tiny F) cs S es₁ es₂
 
--- ---- demand 1 for lengths, adoption and ready, whose contracts say that they answer `requiredLengths`, `adoptedUnder` and `readyUnder`; they write nothing
+-- ---- demand 1 for lengths, adoption and ready, whose contracts say that they answer `required_lengths`, `adopted_under` and `ready_under`; they write nothing
 
 pub record StorageDemand1 (N : NumberForm) : Type 0 where
   -- the lengths are given exactly when the sizes fit usize, and refused with 2 otherwise

@@ -33,6 +33,7 @@ fn lengths(l: &[f64], u: &[f64], y: &[f64], z: &[f64], w: &[f64]) -> LentLengths
 }
 
 // Appends a row and a column: 4, 7, 23, 8.
+#[tactic(auto, using(managed::proofs::Tested::push_passed))]
 pub fn push(
     n: usize,
     capacity: usize,
@@ -64,6 +65,7 @@ pub fn push(
 }
 
 // Replaces a row: 5, 7, 23, 8.
+#[tactic(auto, using(managed::proofs::Tested::replacement_passed))]
 pub fn replace_row(
     n: usize,
     capacity: usize,
@@ -95,6 +97,7 @@ pub fn replace_row(
 }
 
 // Replaces a column: 6, 7, 23, 8.
+#[tactic(auto, using(managed::proofs::Tested::replacement_passed))]
 pub fn replace_column(
     n: usize,
     capacity: usize,
@@ -126,6 +129,7 @@ pub fn replace_column(
 }
 
 // Removes a row and a column: 5, 6, 8.
+#[tactic(auto, using(managed::proofs::Tested::remove_passed))]
 pub fn remove(
     n: usize,
     capacity: usize,

@@ -1,149 +1,81 @@
 // The L product of a vector, plain and transposed.
 #![tactic(auto)]
 
-ghost use Rattle.std.specs.Prelude.{◌+◌, ◌≤◌, length};
+ghost use Rattle.std.specs.Prelude.{◌≡◌, [], ◌∷◌, ◌+◌, ◌≤◌, length};
 ghost use Rattle.std.specs.Float.{binary64};
 ghost use Rattle.numbers.specs.NumberForm.{ieee};
-ghost use Rattle.storage.specs.Views.{LRoom};
+ghost use Rattle.machine.specs.Products.{entry, product, product_transposed};
 ghost use Rattle.ranges.specs.Written.{from, Written};
-ghost use Rattle.products.specs.LProducts.{l_product, l_product_transposed, l_product_from, l_product_transposed_from, FourDots};
+ghost use Rattle.ranges.specs.Sums.{dot_product};
+ghost use Rattle.matrices.specs.Tables.{table_l};
 
-use ranges::{add_multiple, dot, fill};
+use matrices::dense_l::DenseL;
+use ranges::{add_multiple, copy, dot};
 
-// The sums of four rows.
-#[derive(Clone, Copy)]
-struct FourSums {
-    first: f64,
-    second: f64,
-    third: f64,
-    fourth: f64,
-}
-
-// For the rows of `l` that begin at a, b, c and d, the products with input[start + k], k from 0 up to count - 1, added to +0 in that order. Each row has a
-// sum of its own, so that four additions can be under way at once.
-fn four_dots(
-    l: &[f64],
-    a: usize,
-    b: usize,
-    c: usize,
-    d: usize,
-    input: &[f64],
-    start: usize,
-    count: usize,
-) -> FourSums
-    requires { (a + count ≤ length l.now) × ((b + count ≤ length l.now) × ((c + count ≤ length l.now) × ((d + count ≤ length l.now) × (start + count ≤ length input.now)))) }
-    ensures { FourDots (ieee binary64) l.now a b c d input.now start count result.first result.second result.third result.fourth }
+// For each of four rows of one length the products with the entries of `input`, added to +0 in their order. Each row has a sum of its own, so that four
+// additions can be under way at once. Four names and not an array of rows: a loop over it would be a loop within the loop, and the sums stay in registers.
+fn four_dots(a: &[f64], b: &[f64], c: &[f64], d: &[f64], input: &[f64]) -> [f64; 4]
+    requires { (length b.now ≡ length a.now) × ((length c.now ≡ length a.now) × ((length d.now ≡ length a.now) × (length a.now ≤ length input.now))) }
+    ensures { result ≡ dot_product (ieee binary64) a.now input.now ∷ dot_product (ieee binary64) b.now input.now
+        ∷ dot_product (ieee binary64) c.now input.now ∷ dot_product (ieee binary64) d.now input.now ∷ [] }
 {
     let mut first = 0.0;
     let mut second = 0.0;
     let mut third = 0.0;
     let mut fourth = 0.0;
-    for k in 0..count {
-        let value = input[start + k];
-        first += l[a + k] * value;
-        second += l[b + k] * value;
-        third += l[c + k] * value;
-        fourth += l[d + k] * value;
+    for k in 0..a.len() {
+        let value = input[k];
+        first += a[k] * value;
+        second += b[k] * value;
+        third += c[k] * value;
+        fourth += d[k] * value;
     }
-    FourSums {
-        first,
-        second,
-        third,
-        fourth,
-    }
+    [first, second, third, fourth]
 }
 
 // The entries i to i + 3 of the product.
-fn four_products(
-    i: usize,
-    n: usize,
-    stride: usize,
-    l: &[f64],
-    input: &[f64],
-    start: usize,
-    output: &mut [f64],
-)
-    requires { LRoom (ieee binary64) stride n l.now × ((start + n ≤ length input.now) × ((n ≤ length output.old) × (i + 4 ≤ n))) }
-    ensures { Written (ieee binary64) (from i) 4 (λ k. l_product_from (ieee binary64) stride n l.now input.now start (i + k)) output.old output.new }
+fn four_products(i: usize, l: DenseL<'_>, input: &[f64], output: &mut [f64])
+    requires { (l.n ≤ length input.now) × ((l.n ≤ length output.old) × (i + 4 ≤ l.n)) }
+    ensures { Written (ieee binary64) (from i) 4 (λ k. product (ieee binary64) l.entry.n (table_l l.entry) (entry (ieee binary64) input.now) (i + k))
+        output.old output.new }
 {
-    let a = i * stride;
-    let b = a + stride;
-    let c = b + stride;
-    let d = c + stride;
-    let sums = four_dots(l, a, b, c, d, input, start, n);
-    output[i] = sums.first;
-    output[i + 1] = sums.second;
-    output[i + 2] = sums.third;
-    output[i + 3] = sums.fourth;
+    let sums = four_dots(l.row(i), l.row(i + 1), l.row(i + 2), l.row(i + 3), input);
+    copy(&mut output[i..i + 4], &sums);
 }
 
-// As many entries of the product as come in fours; answers how many.
-fn products_by_fours(
-    n: usize,
-    stride: usize,
-    l: &[f64],
-    input: &[f64],
-    start: usize,
-    output: &mut [f64],
-) -> usize
-    requires { LRoom (ieee binary64) stride n l.now × ((start + n ≤ length input.now) × (n ≤ length output.old)) }
-    ensures { (result ≤ n) × Written (ieee binary64) (λ i. i) result (l_product_from (ieee binary64) stride n l.now input.now start) output.old output.new }
+// As many entries of the product as come in fours; answers how many. Not by step_by, for which the loop needs a measure of its own.
+fn products_by_fours(l: DenseL<'_>, input: &[f64], output: &mut [f64]) -> usize
+    requires { (l.n ≤ length input.now) × (l.n ≤ length output.old) }
+    ensures { (result ≤ l.entry.n) × Written (ieee binary64) (λ i. i) result
+        (product (ieee binary64) l.entry.n (table_l l.entry) (entry (ieee binary64) input.now)) output.old output.new }
 {
-    for four in 0..n / 4 {
+    for four in 0..l.n / 4 {
         let i = 4 * four;
-        four_products(i, n, stride, l, input, start, output);
+        four_products(i, l, input, output);
     }
-    n - n % 4
+    l.n - l.n % 4
 }
 
-// output[i] takes the sum of L(i, j) * input[start + j], j from 0 up to n - 1, for i below n.
-pub fn l_product_from(
-    n: usize,
-    stride: usize,
-    l: &[f64],
-    input: &[f64],
-    start: usize,
-    output: &mut [f64],
-)
-    requires { LRoom (ieee binary64) stride n l.now × ((start + n ≤ length input.now) × (n ≤ length output.old)) }
-    ensures { Written (ieee binary64) (λ i. i) n (l_product_from (ieee binary64) stride n l.now input.now start) output.old output.new }
+// output[i] takes the sum of L(i, j) * input[j], j from 0 up to n - 1, for i below n.
+pub fn l_product(l: DenseL<'_>, input: &[f64], output: &mut [f64])
+    requires { (l.n ≤ length input.now) × (l.n ≤ length output.old) }
+    ensures { Written (ieee binary64) (λ i. i) l.entry.n (product (ieee binary64) l.entry.n (table_l l.entry) (entry (ieee binary64) input.now))
+        output.old output.new }
 {
-    let done = products_by_fours(n, stride, l, input, start, output);
-    for i in done..n {
-        output[i] = dot(l, i * stride, input, start, n);
+    let done = products_by_fours(l, input, output);
+    for i in done..l.n {
+        output[i] = dot(l.row(i), input);
     }
 }
 
-// output[i] takes the sum of L(j, i) * input[start + j], j from 0 up to n - 1, for i below n. L is read row by row: each sum still grows in the order of j.
-pub fn l_product_transposed_from(
-    n: usize,
-    stride: usize,
-    l: &[f64],
-    input: &[f64],
-    start: usize,
-    output: &mut [f64],
-)
-    requires { LRoom (ieee binary64) stride n l.now × ((start + n ≤ length input.now) × (n ≤ length output.old)) }
-    ensures { Written (ieee binary64) (λ i. i) n (l_product_transposed_from (ieee binary64) stride n l.now input.now start) output.old output.new }
+// output[i] takes the sum of L(j, i) * input[j], j from 0 up to n - 1, for i below n. L is read row by row: each sum still grows in the order of j.
+pub fn l_product_transposed(l: DenseL<'_>, input: &[f64], output: &mut [f64])
+    requires { (l.n ≤ length input.now) × (l.n ≤ length output.old) }
+    ensures { Written (ieee binary64) (λ i. i) l.entry.n (product_transposed (ieee binary64) l.entry.n (table_l l.entry) (entry (ieee binary64) input.now))
+        output.old output.new }
 {
-    fill(output, 0, n, 0.0);
-    for j in 0..n {
-        add_multiple(output, l, j * stride, n, input[start + j]);
+    output[..l.n].fill(0.0);
+    for (j, entry) in input[..l.n].iter().enumerate() {
+        add_multiple(output, l.row(j), *entry);
     }
-}
-
-// output[i] takes the sum of L(i, j) * input[j], for i below n.
-pub fn l_product(n: usize, stride: usize, l: &[f64], input: &[f64], output: &mut [f64])
-    requires { LRoom (ieee binary64) stride n l.now × ((n ≤ length input.now) × (n ≤ length output.old)) }
-    ensures { Written (ieee binary64) (λ i. i) n (l_product (ieee binary64) stride n l.now input.now) output.old output.new }
-{
-    l_product_from(n, stride, l, input, 0, output);
-}
-
-// output[i] takes the sum of L(j, i) * input[j], for i below n.
-pub fn l_product_transposed(n: usize, stride: usize, l: &[f64], input: &[f64], output: &mut [f64])
-    requires { LRoom (ieee binary64) stride n l.now × ((n ≤ length input.now) × (n ≤ length output.old)) }
-    ensures { Written (ieee binary64) (λ i. i) n (l_product_transposed (ieee binary64) stride n l.now input.now) output.old output.new }
-{
-    l_product_transposed_from(n, stride, l, input, 0, output);
 }

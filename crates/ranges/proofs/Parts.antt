@@ -1,5 +1,5 @@
--- Parts of slices: what one holds that is written at once, and the entries of one that is read.
-use Rattle.std.proofs.Common.{◌≡◌, ◌∙◌, ℕ, ◌+◌, ◌-◌, ◌≤◌, ◌<◌, List, length, take, drop, replicate, arith, rules}
+-- Parts of slices: the entries of one that is read, and what a slice holds where a part of it was written.
+use Rattle.std.proofs.Common.{◌≡◌, refl, ◌∙◌, ℕ, ◌+◌, ◌-◌, ◌≤◌, ◌<◌, List, ◌++◌, length, take, drop, replicate, arith, rules}
 use Rattle.std.proofs.lemmas.List.{places}
 use borrow.Rule.Slice.PartMut.{put_mid}
 use native.Mathlib.Decide.{dec_lt}
@@ -8,49 +8,93 @@ use Rattle.machine.specs.Tables.{Vector}
 use Rattle.machine.specs.Products.{entry}
 use Rattle.ranges.specs.Written.{from, Written}
 
-module _ (N : NumberForm) (at count k : ℕ) (xs ys : List N.Value) (fits : at + count ≤ length xs) (is-k : k ≡ count) (long : length ys ≡ count) where
-  open N use {Value, absent}
+module _ (N : NumberForm) (start stop : ℕ) (xs : List N.Value) where
+  -- `xs[start..stop]`
+  abbrev pub part : List N.Value
+  part = take (stop - start) (drop start xs)
 
-  within : (j : ℕ) → j < count → entry N (put_mid at k xs ys) (at + j) ≡ entry N ys j
+  pub part_long : start ≤ stop → stop ≤ length xs → length part ≡ stop - start
+  part_long ordered fits = search (rules, places)
+
+  pub part_entry : (k : ℕ) → stop ≤ length xs → k < length part → entry N part k ≡ entry N xs (start + k)
+  part_entry k fits h = search (rules, places)
+
+-- xs where `xs[start..stop]`, which is `count` entries long, became ys
+module _ (N : NumberForm) (start stop count : ℕ) (xs ys : List N.Value) (is_stop : stop ≡ start + count) (fits : stop ≤ length xs) (long : length ys ≡ count) where
+  within : (j : ℕ) → j < count → entry N (put_mid start (stop - start) xs ys) (start + j) ≡ entry N ys j
   within j h = search (rules, places)
 
-  before : (q : ℕ) → q < at → entry N (put_mid at k xs ys) q ≡ entry N xs q
+  before : (q : ℕ) → q < start → entry N (put_mid start (stop - start) xs ys) q ≡ entry N xs q
   before q h = search (rules, places)
 
-  behind : (q : ℕ) → at + count ≤ q → entry N (put_mid at k xs ys) q ≡ entry N xs q
+  behind : (q : ℕ) → stop ≤ q → entry N (put_mid start (stop - start) xs ys) q ≡ entry N xs q
   behind q h = search (rules, places)
 
-  long_as_before : length (put_mid at k xs ys) ≡ length xs
+  long_as_before : length (put_mid start (stop - start) xs ys) ≡ length xs
   long_as_before = search (rules, places)
 
-  part_written : {f : Vector Value} → ((j : ℕ) → j < count → entry N ys j ≡ f j) → Written N (from at) count f xs (put_mid at k xs ys)
+  pub part_written : {f : Vector N.Value} → ((j : ℕ) → j < count → entry N ys j ≡ f j) → Written N (from start) count f xs (put_mid start (stop - start) xs ys)
   part_written e = record {
     value = λ j h. within j h ∙ e j h;
     kept = record {
       long = long_as_before;
-      same = λ q free. elim (dec_lt q at) [
+      same = λ q free. elim (dec_lt q start) [
         | yes h ↦ before q h
-        | no h ↦ behind q (elim (dec_lt q (at + count)) [ yes l ↦ absurd (free (q - at, omega arith, omega arith)) | no l ↦ omega arith ])
+        | no h ↦ behind q (elim (dec_lt q stop) [ yes l ↦ absurd (free (q - start, omega arith, omega arith)) | no l ↦ omega arith ])
       ];
     };
   }
 
-module _ (N : NumberForm) (at count : ℕ) (xs ys : List N.Value) where
+module _ (N : NumberForm) (start stop count : ℕ) (xs ys : List N.Value) (is_stop : stop ≡ start + count) (fits : stop ≤ length xs) where
   open N use {Value}
 
-  -- what `target[at..at + count].fill(value)` leaves
-  pub filled : (value : Value) → at + count ≤ length xs → ys ≡ replicate (length (take (at + count - at) (drop at xs))) value
-      → Written N (from at) count (λ k. value) xs (put_mid at (at + count - at) xs ys)
-  filled value fits e =
-      part_written N at count (at + count - at) xs ys fits (omega arith) (rw e (search (rules, places))) (λ j h. rw e (search (rules, places)))
+  -- what `xs[start..stop].fill(value)` leaves
+  pub part_filled : (value : Value) → ys ≡ replicate (length (part N start stop xs)) value → Written N (from start) count (λ k. value) xs (put_mid start (stop - start) xs ys)
+  part_filled value e = part_written N start stop count xs ys is_stop fits (rw e (search (rules, places))) (λ j h. rw e (search (rules, places)))
 
-module _ (N : NumberForm) (start count : ℕ) (xs : List N.Value) where
-  -- `xs[start..start + count]`
-  abbrev pub part : List N.Value
-  part = take (start + count - start) (drop start xs)
+  -- what `copy(&mut xs[start..stop], &source[at..end])` leaves
+  pub part_copied : (source : List Value) (at end : ℕ) → end ≡ at + count → end ≤ length source → ys ≡ part N at end source
+      → Written N (from start) count (λ k. entry N source (at + k)) xs (put_mid start (stop - start) xs ys)
+  part_copied source at end is_end within e =
+      let long : length (part N at end source) ≡ count = omega (arith, part_long N at end source (omega arith) within) in
+      part_written N start stop count xs ys is_stop fits (rw e long) (λ j h. rw e (part_entry N at end source j within (omega arith)))
 
-  pub part_long : start + count ≤ length xs → length part ≡ count
-  part_long fits = search (rules, places)
+-- ---- a part at the front
 
-  pub part_entry : (k : ℕ) → start + count ≤ length xs → k < length part → entry N part k ≡ entry N xs (start + k)
-  part_entry k fits h = search (rules, places)
+module _ (N : NumberForm) (n : ℕ) (xs : List N.Value) where
+  pub front_length : n ≤ length xs → length (take n xs) ≡ n
+  front_length fits = search (rules, places)
+
+  pub front_entry : (k : ℕ) → k < n → n ≤ length xs → entry N (take n xs) k ≡ entry N xs k
+  front_entry k h fits = search (rules, places)
+
+-- xs where `xs[..n]` became ys
+module _ (N : NumberForm) (n : ℕ) (xs ys : List N.Value) (fits : n ≤ length xs) (long : length ys ≡ n) where
+  front_within : (j : ℕ) → j < n → entry N (ys ++ drop n xs) j ≡ entry N ys j
+  front_within j h = search (rules, places)
+
+  front_behind : (q : ℕ) → n ≤ q → entry N (ys ++ drop n xs) q ≡ entry N xs q
+  front_behind q h = search (rules, places)
+
+  front_long : length (ys ++ drop n xs) ≡ length xs
+  front_long = search (rules, places)
+
+  pub front_written : {f : Vector N.Value} → ((j : ℕ) → j < n → entry N ys j ≡ f j) → Written N (λ k. k) n f xs (ys ++ drop n xs)
+  front_written e = record {
+    value = λ j h. front_within j h ∙ e j h;
+    kept = record {
+      long = front_long;
+      same = λ q free. elim (dec_lt q n) [ yes h ↦ absurd (free (q, h, refl)) | no h ↦ front_behind q (omega arith) ];
+    };
+  }
+
+module _ (N : NumberForm) (n : ℕ) (xs ys : List N.Value) (fits : n ≤ length xs) where
+  open N use {Value}
+
+  -- what `xs[..n].fill(value)` leaves
+  pub front_filled : (value : Value) → ys ≡ replicate (length (take n xs)) value → Written N (λ k. k) n (λ k. value) xs (ys ++ drop n xs)
+  front_filled value e = front_written N n xs ys fits (rw e (search (rules, places))) (λ j h. rw e (search (rules, places)))
+
+  -- what `copy(&mut xs[..n], &source[..n])` leaves
+  pub front_copied : (source : List Value) → n ≤ length source → ys ≡ take n source → Written N (λ k. k) n (entry N source) xs (ys ++ drop n xs)
+  front_copied source within e = front_written N n xs ys fits (rw e (search (rules, places))) (λ j h. rw e (search (rules, places)))

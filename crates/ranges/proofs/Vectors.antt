@@ -1,18 +1,18 @@
--- Vectors at the front of a slice: what is written there, under another name, in parts, or over what was written before.
+-- Vectors at the front of a slice: what is written there, under another name, whole, in one entry, or over what was written before.
 use mathlib.Core.Path.{◌≡◌, refl, sym, ap, ◌∙◌}
 use mathlib.Core.List.{List}
 use Prim.Native.Nat.{ℕ, ◌≤◌, ◌<◌}
-use native.Mathlib.Nat.{zero-add}
 use native.Mathlib.Omega.{arith}
 use lib.Dec.{eqb, eqb→eq}
 use lib.ListN.{length, set}
 use lib.Seq.{get_or-set_same, get_or-set_other}
+use Rattle.std.proofs.lemmas.List.{ext_get_or}
 use Rattle.numbers.specs.NumberForm.{NumberForm}
 use Rattle.machine.specs.Tables.{Vector, put}
 use Rattle.machine.specs.Products.{entry}
 use Rattle.machine.proofs.Choice.{neqb→ne, pick}
-use Rattle.storage.proofs.Kept.{kept_all, kept_set, kept_then, kept_more}
-use Rattle.ranges.specs.Written.{from, Written}
+use Rattle.storage.proofs.Kept.{kept_all, kept_set, kept_then}
+use Rattle.ranges.specs.Written.{Written}
 
 module _ (N : NumberForm) where
   open N use {Value, absent}
@@ -25,15 +25,11 @@ module _ (N : NumberForm) where
   pub written_over : {place : ℕ → ℕ} {n : ℕ} {f g : Vector Value} {a b c : List Value} → Written N place n f a b → Written N place n g b c → Written N place n g a c
   written_over h g = record { value = g.value; kept = kept_then N h.kept g.kept }
 
-  -- further entries of one vector
-  pub written_further : {m n : ℕ} {f : Vector Value} {a b c : List Value} → m ≤ n → Written N (λ i. i) m f a b → Written N (λ i. i) n f b c → Written N (λ i. i) n f a c
-  written_further l h g = record { value = g.value; kept = kept_then N (kept_more N (λ q w. (w.0, omega arith, w.2)) h.kept) g.kept }
-
-  pub written_from_0 : {n : ℕ} {f : Vector Value} {a b : List Value} → Written N (from 0) n f a b → Written N (λ i. i) n f a b
-  written_from_0 {b = b} h = record {
-    value = λ k l. ap (entry N b) (sym (zero-add k)) ∙ h.value k l;
-    kept = kept_more N (λ q w. (w.0, w.1, w.2 ∙ zero-add w.0)) h.kept;
-  }
+  -- a slice that is written whole, with the entries of another
+  pub written_whole : {n : ℕ} {a b xs : List Value} → n ≡ length a → length xs ≡ length a → Written N (λ i. i) n (entry N xs) a b → b ≡ xs
+  written_whole {n} {a} {b} {xs} e f h =
+      let long : length b ≡ length xs = h.kept.long ∙ sym f in
+      ext_get_or absent b xs long (λ i l. h.value i (omega arith))
 
   -- nothing is written where each entry is what it was
   pub written_same : (n : ℕ) (l : List Value) → Written N (λ i. i) n (entry N l) l l

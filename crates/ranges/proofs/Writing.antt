@@ -1,4 +1,4 @@
--- One more turn of a loop that stores: what `Written` says of k places becomes what it says of k + 1.
+-- One more turn of a loop that stores: what `Written` says of k places becomes what it says of k + 1; and one more term of a sum.
 use mathlib.Core.Path.{◌≡◌, refl, sym, ◌∙◌}
 use mathlib.Core.List.{List}
 use mathlib.Core.Logic.{◌≢◌}

@@ -10,6 +10,7 @@ ghost use Rattle.managed.specs.Refusals.{storage_tests};
 ghost use Rattle.managed.specs.StorageAnswers.{ready_under};
 ghost use Rattle.readiness.specs.Readiness.{readiness_of};
 
+use matrices::packed_u::PackedU;
 use refusals::{Refusal, test_diagonals, test_storage};
 
 // The storage's refusal, or whether no active diagonal of U is zero, infinite or NaN.
@@ -19,5 +20,10 @@ pub fn ready(n: usize, capacity: usize, l: &[f64], u: &[f64]) -> Result<bool, Re
         (diagonals (ieee binary64) (view_u (ieee binary64) capacity u.now) n) }
 {
     test_storage(n, capacity, l.len(), u.len())?;
-    Ok(test_diagonals(n, capacity, u).is_ok())
+    let active = PackedU {
+        n,
+        stride: capacity,
+        entries: u,
+    };
+    Ok(test_diagonals(active).is_ok())
 }

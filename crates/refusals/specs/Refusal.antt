@@ -1,7 +1,7 @@
 -- What the tests of the managed calls answer, in the numbers of documents 01 and 02.
-use Rattle.std.specs.Prelude.{Result, Ok, Err}
+use Rattle.std.specs.Prelude.{ℕ, Option as Optional, Some, None, Result, Ok, Err}
 use Rattle.std.proofs.Math.Option.{Option, none, some}
-use Rattle.machine.specs.Calls.{Answer, done, refused, refused_at}
+use Rattle.machine.specs.Calls.{Answer, done, moved, refused, refused_at}
 use Rattle.refusals.specs.declared.Refusal.{Refusal}
 use Rattle.refusals.specs.declared.Refusal.TheVariants as refusal
 
@@ -20,6 +20,13 @@ refusal_of (refusal.NonFiniteData i) = refused_at 23 i
 refusal_of refusal.InsufficientWorkspace = refused 8
 refusal_of (refusal.Singular i) = refused_at 9 i
 refusal_of (refusal.NonFiniteDiagonal i) = refused_at 10 i
+
+-- the index that comes with a number, of a diagonal or of a place in the data, where one does
+abbrev pub index_of : Answer → Optional ℕ
+index_of done = None
+index_of (moved r k) = None
+index_of (refused number) = None
+index_of (refused_at number i) = Some i
 
 -- what a test says: no refusal, or which
 abbrev pub test_of : Result (Unit {0}) Refusal → Option Answer

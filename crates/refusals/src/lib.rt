@@ -6,15 +6,16 @@ ghost use Rattle.std.specs.Float.{binary64};
 ghost use Rattle.numbers.specs.NumberForm.{ieee};
 ghost use Rattle.machine.specs.Calls.{number_of};
 ghost use Rattle.machine.specs.Solves.{diagonals};
-ghost use Rattle.storage.specs.Views.{view_u, URoom};
+ghost use Rattle.matrices.specs.Tables.{table_u};
 ghost use Rattle.diagonals.specs.Diagonal as diagonal;
 ghost use Rattle.managed.specs.Refusals.{size_tests, storage_tests, lent_tests};
 ghost use Rattle.refusals.specs.declared.Refusal.TheVariants as refusal;
-ghost use Rattle.refusals.specs.Refusal.{refusal_of, test_of};
+ghost use Rattle.refusals.specs.Refusal.{refusal_of, index_of, test_of};
 ghost use Rattle.refusals.specs.Text.{text_of};
 
 use diagonals::{BadDiagonal, test_diagonal};
 use managed::LentLengths;
+use matrices::packed_u::PackedU;
 use std::error::Error;
 use std::fmt;
 use storage::{SizeOverflow, storage_lengths};
@@ -36,6 +37,20 @@ pub enum Refusal {
     InsufficientWorkspace,
     Singular(usize),
     NonFiniteDiagonal(usize),
+}
+
+impl Refusal {
+    // The diagonal, or the place in the data, that it names, where it names one.
+    pub fn index(self) -> Option<usize>
+        ensures { result ≡ index_of (refusal_of self) }
+    {
+        match self {
+            Refusal::NonFiniteData(i) | Refusal::Singular(i) | Refusal::NonFiniteDiagonal(i) => {
+                Some(i)
+            }
+            _ => None,
+        }
+    }
 }
 
 // In words, with its index or place where it has one.
@@ -85,24 +100,26 @@ impl From<BadDiagonal> for Refusal {
     }
 }
 
-// The number of a refusal in document 01's table, with those that document 02 adds.
-pub fn refusal_number(refusal: Refusal) -> u32
-    ensures { result ≡ number_of (refusal_of refusal) }
-{
-    match refusal {
-        Refusal::InvalidDimension => 1,
-        Refusal::SizeOverflow => 2,
-        Refusal::InsufficientL => 3,
-        Refusal::InsufficientU => 13,
-        Refusal::UnequalWorkspaces => 14,
-        Refusal::CapacityExceeded => 4,
-        Refusal::RowOutOfBounds => 5,
-        Refusal::ColumnOutOfBounds => 6,
-        Refusal::LengthMismatch => 7,
-        Refusal::NonFiniteData(_) => 23,
-        Refusal::InsufficientWorkspace => 8,
-        Refusal::Singular(_) => 9,
-        Refusal::NonFiniteDiagonal(_) => 10,
+// Its number in document 01's table, with those that document 02 adds.
+impl From<Refusal> for u32 {
+    ghost from_gives = { λ refused number. number ≡ number_of (refusal_of refused) };
+
+    fn from(refusal: Refusal) -> u32 {
+        match refusal {
+            Refusal::InvalidDimension => 1,
+            Refusal::SizeOverflow => 2,
+            Refusal::InsufficientL => 3,
+            Refusal::InsufficientU => 13,
+            Refusal::UnequalWorkspaces => 14,
+            Refusal::CapacityExceeded => 4,
+            Refusal::RowOutOfBounds => 5,
+            Refusal::ColumnOutOfBounds => 6,
+            Refusal::LengthMismatch => 7,
+            Refusal::NonFiniteData(_) => 23,
+            Refusal::InsufficientWorkspace => 8,
+            Refusal::Singular(_) => 9,
+            Refusal::NonFiniteDiagonal(_) => 10,
+        }
     }
 }
 
@@ -145,10 +162,9 @@ pub fn test_lent(n: usize, capacity: usize, lent: LentLengths) -> Result<(), Ref
 }
 
 // 9 and 10: the diagonal of U upward, in storage that passed its tests.
-pub fn test_diagonals(n: usize, capacity: usize, u: &[f64]) -> Result<(), Refusal>
-    requires { URoom (ieee binary64) capacity n u.now }
-    ensures { test_of result ≡ diagonals (ieee binary64) (view_u (ieee binary64) capacity u.now) n }
+pub fn test_diagonals(u: PackedU<'_>) -> Result<(), Refusal>
+    ensures { test_of result ≡ diagonals (ieee binary64) (table_u u.entry) u.entry.n }
 {
-    test_diagonal(n, capacity, u)?;
+    test_diagonal(u)?;
     Ok(())
 }

@@ -1,6 +1,6 @@
 // Answers of the managed calls as the sample has them.
 use api::{CallResult, LuMod, Removal, UpdateResult};
-use refusals::{Refusal, refusal_number};
+use refusals::Refusal;
 
 // What a call answers: 0 or its refusal's number, the state that it hands back, the index that a refusal names (the diagonal with 9 and 10, the place in the
 // data with 23) or for ready 1 or 0, and what remove moved.
@@ -32,14 +32,9 @@ impl Answered {
     }
 
     fn refused(refusal: Refusal, state: LuMod) -> Answered {
-        let index = match refusal {
-            Refusal::NonFiniteData(i) | Refusal::Singular(i) | Refusal::NonFiniteDiagonal(i) =>
-                Some(i),
-            _ => None,
-        };
         Answered {
-            index,
-            ..Answered::numbered(refusal_number(refusal) as usize, state)
+            index: refusal.index(),
+            ..Answered::numbered(u32::from(refusal) as usize, state)
         }
     }
 }

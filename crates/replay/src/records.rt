@@ -4,6 +4,7 @@ use crate::call::{Call, Function};
 use crate::sample::{Reader, double};
 use crate::sample_buffers::{Factors, LARGEST_CAPACITY};
 use api::{ColumnIndex, LuMod, RowIndex};
+use refusals::Refusal;
 
 // A list's start: its number of calls, and its capacity, its dimension and its factors.
 #[derive(Clone, Copy)]
@@ -45,27 +46,27 @@ fn read_index(reader: &mut Reader<'_>) -> Option<Option<usize>> {
     Some((index != usize::MAX).then_some(index))
 }
 
-// Which buffer a call lends wrongly whose storage or workspaces the Rust refuses, by document 02's order: 3 for L, then 13 for U, then 14 for the workspaces.
+// Which buffer a call lends wrongly whose storage or workspaces the Rust refuses, by document 02's order: L, then U, then the workspaces.
 // Beyond the largest capacity no L that a sample can lend is long enough.
-fn wrong_buffer(call: &Call) -> usize {
+fn wrong_buffer(call: &Call) -> Refusal {
     let capacity = call.state.capacity;
     if capacity > LARGEST_CAPACITY {
-        return 3;
+        return Refusal::InsufficientL;
     }
     let needed = capacity * (capacity + 1);
     if usize::from(call.l) < needed {
-        return 3;
+        return Refusal::InsufficientL;
     }
     if usize::from(call.u) < needed / 2 {
-        return 13;
+        return Refusal::InsufficientU;
     }
-    14
+    Refusal::UnequalWorkspaces
 }
 
 // The number of an answer: 0, one of the Rust's refusals, which are 1 to 10, or 23. The Rust's InsufficientStorage, which is 3, is told apart.
 fn read_number(reader: &mut Reader<'_>, call: &Call) -> Option<usize> {
     match reader.size()? {
-        3 => Some(wrong_buffer(call)),
+        3 => Some(u32::from(wrong_buffer(call)) as usize),
         number if number <= 10 || number == 23 => Some(number),
         _ => None,
     }

@@ -18,29 +18,29 @@ impl fmt::Display for Malformed {
 
 impl Error for Malformed {}
 
-// The words of a sample, and how many of them are read.
+// The words of a sample, and those of them that are still to be read.
 #[derive(Drop)]
 pub struct Reader<'a> {
     words: &'a [u64],
-    read: usize,
-    ghost within: { read ≤ length words.now },
+    left: &'a [u64],
+    ghost within: { length left.now ≤ length words.now },
 }
 
 impl<'a> Reader<'a> {
     pub fn new(words: &'a [u64]) -> Reader<'a> {
-        Reader { words, read: 0 }
+        Reader { words, left: words }
     }
 
     // The byte where the next word starts.
     pub fn at(&self) -> usize {
-        self.read * 8
+        (self.words.len() - self.left.len()) * 8
     }
 
     // The next word.
     pub fn word(&mut self) -> Option<u64> {
-        let word = *self.words.get(self.read)?;
-        self.read += 1;
-        Some(word)
+        let (word, left) = self.left.split_first()?;
+        self.left = left;
+        Some(*word)
     }
 
     // A dimension, a capacity, an index or a count.
@@ -50,18 +50,18 @@ impl<'a> Reader<'a> {
 
     // The next words, as many as are asked for.
     pub fn take(&mut self, count: usize) -> Option<&'a [u64]> {
-        let (taken, _) = self.words[self.read..].split_at_checked(count)?;
-        self.read += count;
+        let (taken, left) = self.left.split_at_checked(count)?;
+        self.left = left;
         Some(taken)
     }
 
     // Whether one word is left, the sum of those before it modulo 2^64.
     pub fn ends_with_check_word(&self) -> bool {
-        let (before, left) = self.words.split_at(self.read);
+        let before = &self.words[..self.words.len() - self.left.len()];
         let sum = before
             .iter()
             .fold(0, |sum: u64, word| sum.wrapping_add(*word));
-        left == [sum].as_slice()
+        self.left == [sum].as_slice()
     }
 }
 

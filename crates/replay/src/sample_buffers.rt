@@ -75,17 +75,19 @@ impl Buffers {
         }
     }
 
-    // Puts stored factors in.
+    // Puts stored factors in, each row into the next part of its storage.
     pub fn place(&mut self, factors: &Factors<'_>) {
         let n = factors.dimension;
         let mut words = factors.words.iter();
-        let mut l_start = 0;
-        let mut u_start = 0;
+        let mut l = self.l.as_mut_slice();
+        let mut u = self.u.as_mut_slice();
         for row in 0..n {
-            fill(&mut self.l[l_start..l_start + n], &mut words);
-            fill(&mut self.u[u_start..u_start + n - row], &mut words);
-            l_start += factors.capacity;
-            u_start += factors.capacity - row;
+            let (l_row, l_left) = l.split_at_mut(factors.capacity);
+            let (u_row, u_left) = u.split_at_mut(factors.capacity - row);
+            fill(&mut l_row[..n], &mut words);
+            fill(&mut u_row[..n - row], &mut words);
+            l = l_left;
+            u = u_left;
         }
     }
 

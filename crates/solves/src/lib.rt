@@ -1,57 +1,36 @@
-// Solves with the factors, in place. The end of L is work.
+// Solves with the factors, in place.
 #![tactic(auto)]
 
-ghost use Rattle.std.specs.Prelude.{◌^◌, ◌≤◌, ◌<◌, length};
+ghost use Rattle.std.specs.Prelude.{◌≡◌, ◌≤◌, length};
 ghost use Rattle.std.specs.Float.{binary64};
 ghost use Rattle.numbers.specs.NumberForm.{ieee};
 ghost use Rattle.machine.specs.Solves.{solution_vector, solution_transpose_vector};
-ghost use Rattle.storage.specs.Places.{l_length, u_length};
-ghost use Rattle.storage.specs.Views.{state_at};
-ghost use Rattle.products.specs.LProducts.{l_product, l_product_transposed};
+ghost use Rattle.matrices.specs.Tables.{state_held};
 ghost use Rattle.solves.specs.InPlace.{WrittenInPlace};
 
-use products::{l_product_from, l_product_transposed_from};
+use matrices::dense_l::DenseL;
+use matrices::packed_u::PackedU;
+use products::{l_product, l_product_transposed};
 use ranges::copy;
 use substitutions::{back_substitute, forward_substitute};
 
-// b becomes the L product of b; the work takes what b was.
-fn apply_l(n: usize, capacity: usize, l: &mut [f64], b: &mut [f64])
-    requires { (n ≤ capacity) × ((capacity < 2 ^ 32) × ((l_length capacity ≤ length l.old) × (n ≤ length b.old))) }
-    ensures { WrittenInPlace (ieee binary64) capacity n (l_product (ieee binary64) capacity n l.old b.old)
-        l.old b.old l.new b.new }
+// Solves with A: the L product of b, which the work takes, then back substitution. No diagonal is tested.
+pub fn solve(l: DenseL<'_>, u: PackedU<'_>, work: &mut [f64], b: &mut [f64])
+    requires { (u.n ≡ l.n) × ((l.n ≤ length work.old) × (l.n ≤ length b.old)) }
+    ensures { WrittenInPlace (ieee binary64) l.entry.n (solution_vector (ieee binary64) (state_held l.entry u.entry) b.old) work.old b.old work.new b.new }
 {
-    let work = capacity * capacity;
-    copy(l, work, b, 0, n);
-    l_product_from(n, capacity, l, l, work, b);
+    copy(&mut work[..l.n], &b[..l.n]);
+    l_product(l, work, b);
+    back_substitute(u, b);
 }
 
-// The same with L transposed.
-fn apply_l_transposed(n: usize, capacity: usize, l: &mut [f64], b: &mut [f64])
-    requires { (n ≤ capacity) × ((capacity < 2 ^ 32) × ((l_length capacity ≤ length l.old) × (n ≤ length b.old))) }
-    ensures { WrittenInPlace (ieee binary64) capacity n (l_product_transposed (ieee binary64) capacity n l.old b.old)
-        l.old b.old l.new b.new }
+// Solves with A transposed: forward substitution, then the transposed L product of what it left, which the work takes. No diagonal is tested.
+pub fn solve_transpose(l: DenseL<'_>, u: PackedU<'_>, work: &mut [f64], b: &mut [f64])
+    requires { (u.n ≡ l.n) × ((l.n ≤ length work.old) × (l.n ≤ length b.old)) }
+    ensures { WrittenInPlace (ieee binary64) l.entry.n (solution_transpose_vector (ieee binary64) (state_held l.entry u.entry) b.old)
+        work.old b.old work.new b.new }
 {
-    let work = capacity * capacity;
-    copy(l, work, b, 0, n);
-    l_product_transposed_from(n, capacity, l, l, work, b);
-}
-
-// Solves with A: the L product of b, then back substitution. No diagonal is tested.
-pub fn solve(n: usize, capacity: usize, l: &mut [f64], u: &[f64], b: &mut [f64])
-    requires { (n ≤ capacity) × ((capacity < 2 ^ 32) × ((l_length capacity ≤ length l.old) × ((u_length capacity ≤ length u.now) × (n ≤ length b.old)))) }
-    ensures { WrittenInPlace (ieee binary64) capacity n (solution_vector (ieee binary64) (state_at (ieee binary64) capacity n l.old u.now) b.old)
-        l.old b.old l.new b.new }
-{
-    apply_l(n, capacity, l, b);
-    back_substitute(n, capacity, u, b);
-}
-
-// Solves with A transposed: forward substitution, then the transposed L product. No diagonal is tested.
-pub fn solve_transpose(n: usize, capacity: usize, l: &mut [f64], u: &[f64], b: &mut [f64])
-    requires { (n ≤ capacity) × ((capacity < 2 ^ 32) × ((l_length capacity ≤ length l.old) × ((u_length capacity ≤ length u.now) × (n ≤ length b.old)))) }
-    ensures { WrittenInPlace (ieee binary64) capacity n (solution_transpose_vector (ieee binary64) (state_at (ieee binary64) capacity n l.old u.now) b.old)
-        l.old b.old l.new b.new }
-{
-    forward_substitute(n, capacity, u, b);
-    apply_l_transposed(n, capacity, l, b);
+    forward_substitute(u, b);
+    copy(&mut work[..l.n], &b[..l.n]);
+    l_product_transposed(l, work, b);
 }

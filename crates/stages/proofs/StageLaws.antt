@@ -1,8 +1,8 @@
 -- The stages of the updates on buffers: columns and rows put in place, and Backward and Forward between them.
-use mathlib.Core.Path.{◌≡◌, refl, sym, ap, ◌∙◌}
+use mathlib.Core.Path.{◌≡◌, refl, ap, ◌∙◌}
 use mathlib.Core.Bool.{cond, ◌&&◌}
 use mathlib.Core.List.{List, []}
-use Prim.Native.Nat.{ℕ, suc, ◌+◌, ◌-◌, ◌*◌, ◌≤◌, ◌<◌}
+use Prim.Native.Nat.{ℕ, suc, ◌+◌, ◌-◌, ◌≤◌, ◌<◌}
 use native.Mathlib.Omega.{arith}
 use lib.Dec.{leb, eqb, eqb→eq, leb→le, le→leb, T_not}
 use lib.Ieee.Fits.{and_i, and_l, and_r, eq→eqb}
@@ -10,28 +10,26 @@ use lib.ListN.{length, set}
 use lib.Seq.{get_or-set_same, get_or-set_other}
 use borrow.Author.Tests.{lt-ltb, le-ltb}
 use Rattle.numbers.specs.NumberForm.{NumberForm}
-use Rattle.machine.specs.Tables.{Vector, Table, Work, state_of}
+use Rattle.machine.specs.Tables.{Vector, Work, state_of}
 use Rattle.machine.specs.Products.{entry}
 use Rattle.machine.specs.Forward.{forward}
 use Rattle.machine.specs.Backward.{trim, backward}
-use Rattle.machine.specs.Updates.{with_unit_row, put_column, put_selected, last_column_read, restored_from, restored, column_dropped}
+use Rattle.machine.specs.Updates.{put_column, put_selected, last_column_read, restored_from, restored, column_dropped}
 use Rattle.machine.specs.Agreement.{AgreeWithin}
 use Rattle.machine.specs.Counts.{forward_count, backward_count, restored_from_count, restored_count, column_dropped_count}
 use Rattle.machine.proofs.Choice.{neqb→ne, pick, within_from, within_less, within_trans, within_state}
 use Rattle.machine.proofs.Forward.{forward_same}
 use Rattle.machine.proofs.Backward.{trim_le, trim_ge, backward_same}
 use Rattle.machine.proofs.Updates.{restored_same}
-use Rattle.machine.proofs.CountLimits.{forward_count_le, backward_count_le, column_dropped_count_le}
 use Rattle.machine.proofs.Counts.{forward_count_same, backward_count_same, restored_count_same}
 use Rattle.storage.specs.Places.{l_index, u_index, LPlace, UPlace}
 use Rattle.storage.specs.Views.{view_l, view_u, Kept}
 use Rattle.storage.specs.Updated.{Updated}
-use Rattle.storage.proofs.Kept.{kept_set, kept_then, kept_more}
+use Rattle.storage.proofs.Kept.{kept_set, kept_more}
 use Rattle.storage.proofs.Frames.{frame_all, frame_then, frame_last, frame_u, frame_y, frame_w}
 use Rattle.storage.proofs.Places.{l_index_injective, u_index_injective}
-use Rattle.ranges.specs.Written.{from, Written}
+use Rattle.ranges.specs.Written.{Written}
 use Rattle.buffers.specs.Performed.{work_of, Performed}
-use Rattle.stages.specs.Stages.{LUpdated}
 
 module _ (N : NumberForm) where
   open N use {Value, zero as 𝟎, one as 𝟏, absent}
@@ -77,21 +75,6 @@ module _ (N : NumberForm) where
     v = a.v;
   }
 
-  -- ---- a row of L becomes a unit row
-
-  pub unit_row_set : (c n row column p : ℕ) (l : List Value) {l₁ : List Value} → n ≤ c → row < n → column < n → p ≡ l_index c row column → p < length l₁
-      → Written N (from (row * c)) n (λ k. 𝟎) l l₁ → LUpdated N c n (with_unit_row N row column) l (set l₁ p 𝟏)
-  unit_row_set c n row column p l {l₁} hc hr hk is-p fits h = record {
-    value = λ i j hi hj. pick (eqb i row)
-        (λ s. pick (eqb j column)
-        (λ t. ap (λ (r : ℕ). view_l N c (set l₁ p 𝟏) r j) (eqb→eq i row s) ∙ ap (view_l N c (set l₁ p 𝟏) row) (eqb→eq j column t) ∙ ap (entry N (set l₁ p 𝟏)) (sym is-p) ∙ get_or-set_same l₁ p 𝟏 absent fits)
-        (λ t. get_or-set_other l₁ p _ 𝟏 absent (λ e. neqb→ne j column t (l_index_injective c i j row column (omega arith) (omega arith) (e ∙ is-p)).1)
-        ∙ ap (λ (r : ℕ). view_l N c l₁ r j) (eqb→eq i row s) ∙ h.value j hj))
-        (λ s. get_or-set_other l₁ p _ 𝟏 absent (λ e. neqb→ne i row s (l_index_injective c i j row column (omega arith) (omega arith) (e ∙ is-p)).0)
-        ∙ h.kept.same _ (λ w. neqb→ne i row s (l_index_injective c i j row w.0 (omega arith) (omega arith) w.2).0));
-    kept = kept_then N (kept_more N (λ q w. (row, w.0, hr, w.1, w.2)) h.kept) (kept_set N l₁ p 𝟏 (row, column, hr, hk, is-p));
-  }
-
   module _ (E T : Value) where
     -- Forward on buffers that agree with S leaves buffers that agree with Forward of S, whatever stands in v
     pub forward_agrees : (c n start last columns : ℕ) (l u y v : List Value) {l' u' y' : List Value} {S : Work Value} → columns ≤ n → start ≤ last → last < n → last ≤ columns
@@ -117,16 +100,6 @@ module _ (N : NumberForm) where
     pub backward_counted : (c n start selected columns lo : ℕ) (l u y v : List Value) {S : Work Value} {a : ℕ} → columns ≤ n → selected < n
         → a ≡ backward_count N E T start selected columns (work_of N c l u y v) → AgreeWithin n lo columns n (work_of N c l u y v) S → a ≡ backward_count N E T start selected columns S
     backward_counted c n start selected columns lo l u y v hk hl is-a h = is-a ∙ backward_count_same N E T n columns hk start selected lo hl h
-
-    -- one for each row at most
-    pub forward_counted_le : (start last columns : ℕ) (S : Work Value) {a : ℕ} → a ≡ forward_count N E T start last columns S → a ≤ last - start
-    forward_counted_le start last columns S is-a = omega (arith, is-a, forward_count_le N E T start last columns S)
-
-    pub backward_counted_le : (start selected columns : ℕ) (S : Work Value) {a : ℕ} → a ≡ backward_count N E T start selected columns S → a ≤ selected - start
-    backward_counted_le start selected columns S is-a = omega (arith, is-a, backward_count_le N E T start selected columns S)
-
-    pub column_dropped_counted_le : (p : ℕ) (L U : Table Value) (k : ℕ) {a : ℕ} → a ≡ column_dropped_count N E T p L U k → a ≤ 2 * (p - k)
-    column_dropped_counted_le p L U k is-a = omega (arith, is-a, column_dropped_count_le N E T p L U k)
 
     -- y(k) takes v(selected)
     selected_put : (c n k s columns : ℕ) (l u y v : List Value) {S : Work Value} → columns ≤ length y → k < columns → s < n → AgreeWithin n (suc k) columns n (work_of N c l u y v) S

@@ -1,35 +1,23 @@
 // Stages of the updates of the factors.
 #![tactic(auto)]
 
-ghost use Rattle.std.specs.Prelude.{◌≡◌, [], ◌-◌, ◌≤◌, ◌<◌, length};
+ghost use Rattle.std.specs.Prelude.{◌≡◌, [], ◌-◌, ◌*◌, ◌≤◌, ◌<◌, length};
 ghost use Rattle.std.specs.Float.{binary64};
 ghost use Rattle.numbers.specs.NumberForm.{ieee};
 ghost use Rattle.machine.specs.Tables.{state_of};
-ghost use Rattle.machine.specs.Updates.{with_unit_row, restored, column_dropped};
+ghost use Rattle.machine.specs.Updates.{restored, column_dropped};
 ghost use Rattle.machine.specs.Counts.{restored_count, column_dropped_count};
-ghost use Rattle.storage.specs.Views.{view_l, view_u, LRoom};
+ghost use Rattle.storage.specs.Views.{view_l, view_u};
 ghost use Rattle.storage.specs.Updated.{Updated};
 ghost use Rattle.factors.specs.SameStorage.{SameStorage};
+ghost use Rattle.factors.specs.StepFits.{StepFits};
 ghost use Rattle.factors.specs.StepPerformed.{work_with, StepPerformed};
-ghost use Rattle.stages.specs.Stages.{LUpdated};
 
 use backward::{backward, trim};
-use columns::{read_u_column, write_u_column};
 use factors::Factors;
 use forward::forward;
+use matrices::packed_u::PackedU;
 use numerics::tolerance::Numerics;
-use ranges::fill;
-use storage::l_index;
-
-// L's row `row` becomes 0 with 1 at `column`, in the first n columns.
-pub fn set_unit_row(row: usize, column: usize, n: usize, stride: usize, l: &mut [f64])
-    requires { (row < n) × ((column < n) × LRoom (ieee binary64) stride n l.old) }
-    ensures { LUpdated (ieee binary64) stride n (with_unit_row (ieee binary64) row column) l.old l.new }
-{
-    fill(l, row * stride, n, 0.0);
-    let place = l_index(row, column, stride);
-    l[place] = 1.0;
-}
 
 // Restores the triangle after U's column was put in place, w holding what the column is to be: Backward above `last`, and Forward on the row that it leaves.
 // It answers how many pair steps it made.
@@ -42,11 +30,13 @@ pub fn restore(
     w: &mut [f64],
     numerics: Numerics,
 ) -> usize
-    requires { (factors.old.n ≤ length y.old) × ((factors.old.n ≤ length w.old) × ((column < last) × ((last < factors.old.n) × ((last ≤ columns)
-        × (columns ≤ factors.old.n))))) }
+    requires fits { StepFits last columns factors.old y.old }
+    requires long { (factors.old.n ≤ length y.old) × (factors.old.n ≤ length w.old) }
+    requires within { column < last }
     ensures performed { StepPerformed column columns 0 (restored (ieee binary64) numerics.epsilon numerics.tiny column last columns)
         factors.old y.old w.old factors.new y.new w.new }
     ensures counted { result ≡ restored_count (ieee binary64) numerics.epsilon numerics.tiny column last columns (work_with factors.old y.old w.old) }
+    ensures few { result ≤ 2 * (last - column) }
 {
     let selected = trim(column + 1, last, w, numerics.epsilon);
     let backward_steps = backward(column + 1, selected, columns, factors, y, w, numerics);
@@ -71,14 +61,20 @@ pub fn drop_column(
         factors.old.l.now factors.old.u.now y.old [] w.old factors.new.l.now factors.new.u.now y.new [] w.new }
     ensures counted { result ≡ column_dropped_count (ieee binary64) numerics.epsilon numerics.tiny (factors.old.n - 1)
         (view_l (ieee binary64) factors.old.stride factors.old.l.now) (view_u (ieee binary64) factors.old.stride factors.old.u.now) column }
+    ensures few { result ≤ 2 * (factors.old.n - 1 - column) }
     ensures same_storage { SameStorage factors.old factors.new }
 {
     let last = factors.n - 1;
     if column < last {
-        let stride = factors.stride;
-        let u = &mut *factors.u;
-        read_u_column(u, last, stride, w);
-        write_u_column(u, column, column + 1, stride, w);
+        // Lent whole by &mut first: where a field is lent to be read, a proof knows only its length afterwards.
+        let entries = &mut *factors.u;
+        let u = PackedU {
+            n: factors.n,
+            stride: factors.stride,
+            entries,
+        };
+        u.read_column(last, &mut w[..last + 1]);
+        factors.write_u_column(column, &w[..column + 1]);
         return restore(column, last, last, factors, y, w, numerics);
     }
     0

@@ -1,8 +1,8 @@
--- The factors that buffers of capacity c hold, how long a buffer must be for that, and what it is for a buffer to be left as it was.
-use Rattle.std.specs.Prelude.{◌≡◌, List, ℕ, ◌*◌, ◌^◌, ◌≤◌, ◌<◌, length, get_or}
+-- The factors that buffers of capacity c hold, and what it is for a buffer to be left as it was.
+use Rattle.std.specs.Prelude.{◌≡◌, List, ℕ, length, get_or}
 use Rattle.numbers.specs.NumberForm.{NumberForm}
 use Rattle.machine.specs.Tables.{Table, State}
-use Rattle.storage.specs.Places.{l_index, u_index, u_length}
+use Rattle.storage.specs.Places.{l_index, u_index}
 
 module _ (N : NumberForm) where
   open N use {Value, absent}
@@ -12,13 +12,6 @@ module _ (N : NumberForm) where
 
   abbrev pub view_u : ℕ → List Value → Table Value
   view_u c u i j = get_or u (u_index c i j) absent
-
-  -- l has room for L of dimension n, the solve work left out, and u for U; no place exceeds usize
-  abbrev pub LRoom : (c n : ℕ) → List Value → Type 0
-  LRoom c n l = (n ≤ c) × ((c < 2 ^ 32) × (c * c ≤ length l))
-
-  abbrev pub URoom : (c n : ℕ) → List Value → Type 0
-  URoom c n u = (n ≤ c) × ((c < 2 ^ 32) × (u_length c ≤ length u))
 
   -- the state of dimension n that they hold
   abbrev pub state_at : ℕ → ℕ → List Value → List Value → State Value

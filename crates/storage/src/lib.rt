@@ -29,7 +29,8 @@ impl fmt::Display for SizeOverflow {
 
 impl Error for SizeOverflow {}
 
-// The lengths that a capacity needs: L's with the solve work at its end, and the packed triangle's. SizeOverflow where capacity + 1 or L's length exceeds usize.
+// The lengths that a capacity needs: L's with the solve work at its end, and the packed triangle's. SizeOverflow where capacity + 1 or L's length
+// exceeds usize.
 #[tactic(auto, unfolding(crate::specs::Places::overflows))]
 pub fn storage_lengths(capacity: usize) -> Result<StorageLengths, SizeOverflow>
     ensures { answer_of result ≡ required_lengths capacity }

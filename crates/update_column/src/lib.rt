@@ -2,14 +2,11 @@
 #![tactic(auto)]
 
 ghost use Rattle.std.specs.Prelude.{◌≤◌, ◌<◌, length};
-ghost use Rattle.std.specs.Float.{binary64};
-ghost use Rattle.numbers.specs.NumberForm.{ieee};
 ghost use Rattle.machine.specs.Calls as calls;
-ghost use Rattle.storage.specs.Updated.{CarriedOut};
-ghost use Rattle.factors.specs.SameStorage.{SameStorage};
+ghost use Rattle.factors.specs.UpdateCarriedOut.{UpdateCarriedOut};
 
-use columns::write_u_column;
 use factors::Factors;
+use matrices::dense_l::DenseL;
 use numerics::tolerance::Numerics;
 use products::l_product;
 use stages::restore;
@@ -24,16 +21,19 @@ pub fn replace_column(
     numerics: Numerics,
 ) -> usize
     requires { (factors.old.n ≤ length y.old) × ((factors.old.n ≤ length z.now) × ((factors.old.n ≤ length w.old) × (column < factors.old.n))) }
-    ensures carried_out { CarriedOut (ieee binary64) numerics.epsilon numerics.tiny factors.old.stride factors.old.n factors.old.n (calls.replace_column column z.now)
-        factors.old.l.now factors.old.u.now y.old z.now w.old
-        factors.new.l.now factors.new.u.now y.new z.now w.new result }
-    ensures same_storage { SameStorage factors.old factors.new }
+    ensures { UpdateCarriedOut numerics.epsilon numerics.tiny factors.old.n (calls.replace_column column z.now)
+        factors.old y.old z.now w.old factors.new y.new z.now w.new result }
 {
     let n = factors.n;
-    let stride = factors.stride;
-    let l = &mut *factors.l;
-    l_product(n, stride, l, z, w);
-    write_u_column(factors.u, column, column + 1, stride, w);
+    // Lent whole by &mut first: where a field is lent to be read, a proof knows only its length afterwards.
+    let entries = &mut *factors.l;
+    let l = DenseL {
+        n,
+        stride: factors.stride,
+        entries,
+    };
+    l_product(l, z, w);
+    factors.write_u_column(column, &w[..column + 1]);
     if column + 1 < n {
         return restore(column, n - 1, n, factors, y, w, numerics);
     }

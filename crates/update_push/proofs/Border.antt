@@ -24,7 +24,7 @@ use Rattle.storage.proofs.Places.{u_index_injective}
 use Rattle.ranges.specs.Written.{Written}
 use Rattle.products.specs.LProducts.{l_product}
 use Rattle.buffers.specs.Performed.{work_of, Performed}
-use Rattle.stages.specs.Stages.{LUpdated}
+use Rattle.factors.specs.LUpdated.{LUpdated}
 use Rattle.stages.proofs.StageLaws.{l_column, l_column_kept, u_column_other, u_column_kept, forward_agrees, forward_counted}
 
 module _ (N : NumberForm) (E T : N.Value) where

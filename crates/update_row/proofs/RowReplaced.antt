@@ -17,6 +17,7 @@ use Rattle.machine.specs.Agreement.{AgreeWithin}
 use Rattle.machine.specs.Counts.{forward_count, forward_rows_count, backward_count, pushed_count, row_replaced_from_count, row_replaced_count, accepted_count}
 use Rattle.machine.proofs.Choice.{choose, within_from, within_trans, within_state}
 use Rattle.machine.proofs.Backward.{trim_same, trim_le}
+use Rattle.machine.proofs.CountLimits.{forward_count_le, backward_count_le}
 use Rattle.storage.specs.Places.{l_index}
 use Rattle.storage.specs.Views.{view_l, view_u}
 use Rattle.storage.specs.Updated.{CarriedOut}
@@ -24,8 +25,8 @@ use Rattle.storage.proofs.Kept.{kept_more}
 use Rattle.storage.proofs.Frames.{frame_then, frame_first, frame_middle, frame_last, frame_l, frame_w}
 use Rattle.ranges.specs.Written.{Written}
 use Rattle.buffers.specs.Performed.{work_of, Performed}
-use Rattle.stages.specs.Stages.{LUpdated}
-use Rattle.stages.proofs.StageLaws.{l_column, l_column_kept, forward_agrees, backward_agrees, forward_counted, backward_counted, forward_counted_le, backward_counted_le}
+use Rattle.factors.specs.LUpdated.{LUpdated}
+use Rattle.stages.proofs.StageLaws.{l_column, l_column_kept, forward_agrees, backward_agrees, forward_counted, backward_counted}
 
 module _ (N : NumberForm) (E T : N.Value) where
   open N use {Value, zero as 𝟎}
@@ -107,9 +108,9 @@ module _ (N : NumberForm) (E T : N.Value) where
         go true e =
             let one : n ≡ 1 = eqb→eq n 1 (rw e tt) in
             let hs = selected_below in
-            let f = backward_counted_le N E T 0 s n _ is-a in
-            let g = forward_counted_le N E T 0 s n _ is_b in
-            omega arith
+            let f = backward_count_le N E T 0 s n (work_of N c l₁ u z w₁) in
+            let g = forward_count_le N E T 0 s n (work_of N c l₃ u₂ y []) in
+            omega (arith, is-a, is_b, f, g)
         go false e =
             let f = backward_counted N E T c n 0 s n n l₁ u z w₁ (omega arith) selected_below is-a row_cleared in
             let g = forward_counted N E T c n 0 s n l₃ u₂ y [] (omega arith) selected_below (omega (arith, selected_below)) is_b row_placed in

@@ -2,18 +2,14 @@
 #![tactic(auto)]
 
 ghost use Rattle.std.specs.Prelude.{◌≤◌, ◌<◌, length};
-ghost use Rattle.std.specs.Float.{binary64};
-ghost use Rattle.numbers.specs.NumberForm.{ieee};
 ghost use Rattle.machine.specs.Calls as calls;
-ghost use Rattle.storage.specs.Updated.{CarriedOut};
-ghost use Rattle.factors.specs.SameStorage.{SameStorage};
+ghost use Rattle.factors.specs.UpdateCarriedOut.{UpdateCarriedOut};
 
 use backward::{backward, trim};
-use columns::{clear_l_column, read_l_column};
 use factors::Factors;
 use forward::forward;
+use matrices::dense_l::DenseL;
 use numerics::tolerance::Numerics;
-use stages::set_unit_row;
 
 // Replaces a row of the matrix by y. It answers how many pair steps it made.
 pub fn replace_row(
@@ -25,19 +21,22 @@ pub fn replace_row(
     numerics: Numerics,
 ) -> usize
     requires { (factors.old.n ≤ length y.old) × ((factors.old.n ≤ length z.old) × ((factors.old.n ≤ length w.old) × (row < factors.old.n))) }
-    ensures carried_out { CarriedOut (ieee binary64) numerics.epsilon numerics.tiny factors.old.stride factors.old.n factors.old.n (calls.replace_row row y.old)
-        factors.old.l.now factors.old.u.now y.old z.old w.old
-        factors.new.l.now factors.new.u.now y.new z.new w.new result }
-    ensures same_storage { SameStorage factors.old factors.new }
+    ensures { UpdateCarriedOut numerics.epsilon numerics.tiny factors.old.n (calls.replace_row row y.old)
+        factors.old y.old z.old w.old factors.new y.new z.new w.new result }
 {
     let n = factors.n;
-    let stride = factors.stride;
-    let l = &mut *factors.l;
-    read_l_column(l, row, n, stride, w);
-    clear_l_column(l, row, n, stride);
+    // Lent whole by &mut first: where a field is lent to be read, a proof knows only its length afterwards.
+    let entries = &mut *factors.l;
+    let l = DenseL {
+        n,
+        stride: factors.stride,
+        entries,
+    };
+    l.read_column(row, &mut w[..n]);
+    factors.clear_l_column(row, n);
     let selected = trim(0, n - 1, w, numerics.epsilon);
     let backward_steps = backward(0, selected, n, factors, z, w, numerics);
-    set_unit_row(selected, row, n, stride, factors.l);
+    factors.set_unit_row(selected, row);
     let forward_steps = forward(0, selected, n, factors, y, numerics);
     backward_steps + forward_steps
 }

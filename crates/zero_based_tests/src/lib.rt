@@ -1,7 +1,7 @@
 // What the zero-based calls refuse, and the update that the numbers of LUmod name.
 #![tactic(auto)]
 
-ghost use Rattle.std.specs.Prelude.{◌≡◌, ◌^◌, ◌<◌, IfSome, if◌then◌else◌};
+ghost use Rattle.std.specs.Prelude.{◌≡◌, ◌^◌, ◌<◌, IfSome, is_err, if◌then◌else◌};
 ghost use Rattle.host_numbers.specs.Numbers.{size_of};
 ghost use Rattle.zero_based_tests.specs.Refusals.{passed_over, update_lacks_room, product_lacks_room, solve_lacks_room};
 ghost use Rattle.zero_based_tests.specs.Update.{update_of, InRange};
@@ -39,9 +39,13 @@ pub fn update_named(mode: i32, n: usize, krow: i32, kcol: i32) -> Option<Update>
     }
 }
 
+// Why a call is refused with 12: the dimension exceeds the stride, or a buffer is too short.
+#[derive(Clone, Copy, Debug, PartialEq, Eq)]
+pub struct LacksRoom;
+
 // What LUmod refuses with 12, for the lengths of its buffers.
 #[tactic(auto, unfolding(crate::specs::Refusals::update_lacks_room))]
-pub fn update_lacks_room(
+pub fn update_room(
     n: usize,
     stride: usize,
     l: usize,
@@ -49,27 +53,42 @@ pub fn update_lacks_room(
     y: usize,
     z: usize,
     w: usize,
-) -> bool
+) -> Result<(), LacksRoom>
     requires { stride < 2 ^ 31 }
-    ensures { result ≡ update_lacks_room n stride l u y z w }
+    ensures { is_err result ≡ update_lacks_room n stride l u y z w }
 {
-    n > stride || l < stride * stride || u < stride * (stride + 1) / 2 || y < n || z < n || w < n
+    if n > stride
+        || l < stride * stride
+        || u < stride * (stride + 1) / 2
+        || y < n
+        || z < n
+        || w < n
+    {
+        return Err(LacksRoom);
+    }
+    Ok(())
 }
 
 // What Lprod refuses with 12.
 #[tactic(auto, unfolding(crate::specs::Refusals::product_lacks_room))]
-pub fn product_lacks_room(n: usize, stride: usize, l: usize, y: usize, z: usize) -> bool
+pub fn product_room(n: usize, stride: usize, l: usize, y: usize, z: usize) -> Result<(), LacksRoom>
     requires { stride < 2 ^ 31 }
-    ensures { result ≡ product_lacks_room n stride l y z }
+    ensures { is_err result ≡ product_lacks_room n stride l y z }
 {
-    n > stride || l < stride * stride || y < n || z < n
+    if n > stride || l < stride * stride || y < n || z < n {
+        return Err(LacksRoom);
+    }
+    Ok(())
 }
 
 // What Usolve refuses with 12.
 #[tactic(auto, unfolding(crate::specs::Refusals::solve_lacks_room))]
-pub fn solve_lacks_room(n: usize, stride: usize, u: usize, y: usize) -> bool
+pub fn solve_room(n: usize, stride: usize, u: usize, y: usize) -> Result<(), LacksRoom>
     requires { stride < 2 ^ 31 }
-    ensures { result ≡ solve_lacks_room n stride u y }
+    ensures { is_err result ≡ solve_lacks_room n stride u y }
 {
-    n > stride || u < stride * (stride + 1) / 2 || y < n
+    if n > stride || u < stride * (stride + 1) / 2 || y < n {
+        return Err(LacksRoom);
+    }
+    Ok(())
 }

@@ -6,7 +6,7 @@ use Rattle.numbers.specs.NumberForm.{NumberForm, ieee}
 use Rattle.machine.specs.Backward.{backward_row, backward_rows}
 use Rattle.machine.proofs.Backward.{backward_row_same}
 use Rattle.factors.proofs.Steps.{step_none, step_then, step_as, step_below}
-use Rattle.backward.proofs.Rows.{row_counted_le, rows_counted_le, backward_rows_none, backward_rows_more, backward_count_none, backward_count_more}
+use Rattle.backward.proofs.Rows.{backward_rows_none, backward_rows_more, backward_count_none, backward_count_more}
 use Rattle.backward.proofs.backward_rows.Goals as goal
 
 abbrev N : NumberForm
@@ -18,14 +18,8 @@ loop-row-init c = record {
   last = omega arith;
   performed = step_as (λ S. S) (backward_rows_none N _ _ _ _ _) step_none;
   counted = backward_count_none N _ _ _ _ _;
+  few = omega arith;
 }
-
-pub overflow_add-steps : goal.overflow_add-steps
-overflow_add-steps c =
-    let a = c.args in
-    let k = rows_counted_le N a.numerics.epsilon a.numerics.tiny _ _ _ _ c.loop-row.invariant.counted in
-    let r = row_counted_le N a.numerics.epsilon a.numerics.tiny _ a.columns _ _ c.backward_row-steps.ensures.counted in
-    omega (arith, k, r)
 
 pub loop-row-preserved : goal.loop-row-preserved
 loop-row-preserved c =
@@ -45,4 +39,5 @@ loop-row-preserved c =
       counted =
           backward_count_more N a.numerics.epsilon a.numerics.tiny a.selected a.columns a.factors.now.n row _ (omega arith) (omega arith) h.last (omega arith) h.counted h.performed.performed.agree
           (rw s.stride at e.counted);
+      few = omega (arith, h.few, e.few);
     }

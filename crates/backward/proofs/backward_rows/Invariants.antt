@@ -17,4 +17,5 @@ invariant-loop-row l = record {
   last : l.row ≤ l.selected;
   performed : StepPerformed l.row l.columns l.initial.factors.n (backward_rows N l.numerics.epsilon l.numerics.tiny l.selected l.columns (l.selected - l.row)) l.initial.factors l.initial.y l.initial.v l.factors l.y l.v;
   counted : l.steps ≡ backward_rows_count N l.numerics.epsilon l.numerics.tiny l.selected l.columns (l.selected - l.row) (work_with l.initial.factors l.initial.y l.initial.v);
+  few : l.steps ≤ l.selected - l.row;
 }

@@ -1,30 +1,22 @@
--- `trim`: an entry a turn.
-use mathlib.Core.Path.{◌≡◌, ◌∙◌}
-use Prim.Native.Nat.{◌-◌, ◌<◌}
-use native.Mathlib.Omega.{arith}
+-- `trim`: the last entry that is not negligible, or none.
+use Prim.Native.Nat.{◌+◌, ◌<◌}
+use Rattle.std.proofs.Common.{rules, arith, length}
 use lib.Ieee.{binary64}
 use Rattle.numbers.specs.NumberForm.{NumberForm, ieee}
-use Rattle.backward.proofs.Rows.{trim_more, trim_ends, trim_at_start}
+use Rattle.ranges.proofs.Parts.{part}
+use Rattle.backward.proofs.Trimming.{trim_found, trim_none}
 use Rattle.backward.proofs.trim.Goals as goal
 
 abbrev N : NumberForm
 N = ieee binary64
 
-pub loop-selected-preserved : goal.loop-selected-preserved
-loop-selected-preserved c =
-    let h : c.args.first < c.loop-selected.selected = omega arith in (omega arith, (omega arith, trim_more N _ _ _ _ h c.abs.ensures c.if-not-negligible.false ∙ c.loop-selected.invariant.1.1))
+pub returns-in-Some : goal.returns-in-Some
+returns-in-Some c =
+    let inside : c.in-Some.k < length (part N (c.args.first + 1) (c.args.last + 1) c.args.v.now) = search rules in
+    let ends = trim_found N c.args.epsilon c.args.v.now c.args.first c.args.last (omega arith) (omega arith) c.in-Some.k inside (search rules) (search rules) in
+    (ends, (omega arith, search rules))
 
-pub returns-then-not-negligible : goal.returns-then-not-negligible
-returns-then-not-negligible c =
-    let h : c.args.first < c.loop-selected.selected = omega arith in (trim_ends N _ _ _ _ h c.abs.ensures c.if-not-negligible.true ∙ c.loop-selected.invariant.1.1, (omega arith, omega arith))
-
-pub returns-else-not-negligible : goal.returns-else-not-negligible
-returns-else-not-negligible c =
-    let h : c.args.first < c.loop-selected.selected = omega arith in
-    let e : c.args.first ≡ c.loop-selected.selected - 1 = omega arith in
-    (e ∙ trim_at_start N _ _ _ _ (omega arith) ∙ trim_more N _ _ _ _ h c.abs.ensures c.if-not-negligible.false ∙ c.loop-selected.invariant.1.1, (omega arith, omega arith))
-
-pub returns : goal.returns
-returns c =
-    let e : c.args.first ≡ c.loop-selected.selected = omega arith in
-    (e ∙ trim_at_start N _ _ _ _ (omega arith) ∙ c.loop-selected.invariant.1.1, (omega arith, omega arith))
+pub returns-in-None : goal.returns-in-None
+returns-in-None c =
+    let ends = trim_none N c.args.epsilon c.args.v.now c.args.first c.args.last (omega arith) (omega arith) (search rules) in
+    (ends, (omega arith, omega arith))

@@ -8,8 +8,9 @@ use Rattle.numbers.specs.NumberForm.{NumberForm, ieee}
 use Rattle.machine.specs.Backward.{clear_dense, backward_transform}
 use Rattle.machine.proofs.Backward.{backward_transform_same}
 use Rattle.ranges.proofs.RowParts.{part_fits}
+use Rattle.transforms.proofs.Pairs.{parts_transformed}
 use Rattle.buffers.proofs.Buffers.{performed_then, performed_from}
-use Rattle.factors.proofs.Steps.{same_storage_refl, step_as, step_from}
+use Rattle.factors.proofs.Steps.{same_here, step_as, step_from}
 use Rattle.backward_row.proofs.RowEliminated.{dense_cleared, backward_transformed, backward_skips_lem, backward_acts, backward_skips_counted, backward_acts_counted}
 use Rattle.backward_row.proofs.backward_row.Goals as goal
 
@@ -26,28 +27,30 @@ returns-then-skips c =
           (backward_skips_lem N a.numerics.epsilon a.numerics.tiny f.stride a.row a.selected a.columns f.l.now f.u.now a.y.now a.v.now c.abs-2.ensures c.abs.ensures c.if-skips.true)
           (step_from (omega arith) (record {
             performed = dense_cleared N f.stride f.n a.columns a.row f.n _ _ _ _ (omega arith) (omega arith) (omega arith);
-            same_storage = same_storage_refl;
+            same_storage = same_here refl refl refl refl;
           }));
       counted = backward_skips_counted N a.numerics.epsilon a.numerics.tiny f.stride a.row a.selected a.columns f.l.now f.u.now a.y.now a.v.now c.abs-2.ensures c.abs.ensures c.if-skips.true;
+      few = omega arith;
     }
 
-pub transform_slices-requires : goal.transform_slices-requires
-transform_slices-requires c =
+pub slice_bounds-transform_slices-end-2 : goal.slice_bounds-transform_slices-end-2
+slice_bounds-transform_slices-end-2 c =
     let a = c.args in
     let f = a.factors.now in
-    let p = c.requires in (
-      simp length-set (omega arith),
-      part_fits f.stride a.row a.row (a.columns - a.row) c.u_index-diagonal.result (omega arith) (omega arith) c.u_index-diagonal.ensures.0 (length f.u.now) (omega arith) (omega arith),
-    )
+    let d = c.u_index-diagonal in
+    part_fits f.stride a.row a.row (a.columns - a.row) d.result (omega arith) (omega arith) d.ensures.0 (length f.u.now) (omega arith) (omega arith)
 
 pub returns : goal.returns
 returns c =
-    let transformed = c.transform_slices in
     let a = c.args in
     let f = a.factors.now in
     let p = c.requires in
     let d = c.u_index-diagonal in
-    let s = c.elementary-transform in record {
+    let s = c.elementary-transform in
+    let fits = part_fits f.stride a.row a.row (a.columns - a.row) d.result (omega arith) (omega arith) d.ensures.0 (length f.u.now) (omega arith) (omega arith) in
+    let pairs =
+    parts_transformed N _ _ a.row _ d.result _ (a.columns - a.row) _ _ (omega arith) (omega arith) (simp length-set (omega arith)) fits
+    c.transform_slices.ensures in record {
       performed =
           step_as (λ S. backward_transform N a.selected a.columns a.row _ (clear_dense N a.row S))
           (backward_acts N a.numerics.epsilon a.numerics.tiny f.stride a.row a.selected a.columns f.l.now f.u.now a.y.now a.v.now c.abs-2.ensures c.abs.ensures c.if-skips.false s.ensures.step)
@@ -56,10 +59,11 @@ returns c =
                 performed_then N (performed_from N (omega arith) (dense_cleared N f.stride f.n a.columns a.row f.n _ _ _ _ (omega arith) (omega arith) (omega arith)))
                 (backward_transformed N f.stride f.n a.columns a.row a.selected d.result _ _ _ _ _ _ _ _
                 (omega arith) (omega arith) (omega arith) (omega arith) (omega arith) d.ensures.0 (omega arith) s.ensures.cleared
-                transformed.ensures.0 transformed.ensures.1 c.transform_rows.ensures)
+                pairs c.transform_rows.ensures)
                 (omega arith)
                 (λ S R. backward_transform_same N a.numerics.epsilon a.numerics.tiny f.n a.columns (omega arith) a.selected a.row refl (omega arith) (omega arith));
-            same_storage = record { dimension = refl; stride = refl; l = refl; u = refl };
+            same_storage = same_here refl refl refl refl;
           });
       counted = backward_acts_counted N a.numerics.epsilon a.numerics.tiny f.stride a.row a.selected a.columns f.l.now f.u.now a.y.now a.v.now c.abs-2.ensures c.abs.ensures c.if-skips.false;
+      few = omega arith;
     }

@@ -11,16 +11,17 @@ abbrev N : NumberForm
 N = ieee binary64
 
 pub loop-i-init : goal.loop-i-init
-loop-i-init c = (omega arith, none_searched N c.args.stride c.args.u.now)
+loop-i-init c = (omega arith, none_searched N _)
 
 pub returns-then-value : goal.returns-then-value
 returns-then-value c =
-    let h : c.loop-i.i < c.args.n = omega arith in zero_found N c.args.stride c.args.n c.loop-i.i c.u_index.result c.args.u.now c.u_index.ensures.0 c.loop-i.invariant.1 h c.if-value.true
+    let below : c.loop-i.i < c.args.u.n = omega arith in zero_found N _ _ _ _ c.entry-value.ensures c.loop-i.invariant.1 below c.if-value.true
 
 pub returns-then-not-is_finite : goal.returns-then-not-is_finite
 returns-then-not-is_finite c =
-    let h : c.loop-i.i < c.args.n = omega arith in non_finite_found N c.args.stride c.args.n c.loop-i.i c.u_index.result c.args.u.now c.u_index.ensures.0 c.loop-i.invariant.1 h c.if-value.false (sym c.is_finite.ensures ∙ c.if-not-is_finite.true)
+    let below : c.loop-i.i < c.args.u.n = omega arith in
+    non_finite_found N _ _ _ _ c.entry-value.ensures c.loop-i.invariant.1 below c.if-value.false (sym c.is_finite.ensures ∙ c.if-not-is_finite.true)
 
 pub loop-i-preserved : goal.loop-i-preserved
 loop-i-preserved c =
-    (omega arith, sound_found N c.args.stride c.args.n c.loop-i.i c.u_index.result c.args.u.now c.u_index.ensures.0 c.loop-i.invariant.1 c.if-value.false (sym c.is_finite.ensures ∙ c.if-not-is_finite.false))
+    (omega arith, sound_found N _ c.args.u.n _ _ c.entry-value.ensures c.loop-i.invariant.1 c.if-value.false (sym c.is_finite.ensures ∙ c.if-not-is_finite.false))

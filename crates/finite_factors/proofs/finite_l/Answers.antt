@@ -1,32 +1,20 @@
--- `finite_l`: one row a turn.
-use mathlib.Core.Path.{sym, ◌∙◌}
-use mathlib.Core.Bool.{Bool, true}
-use mathlib.Core.List.{List}
-use Prim.Native.Nat.{ℕ, ◌<◌}
-use native.Mathlib.Omega.{arith}
-use lib.Ieee.{Float, binary64}
-use lib.Ieee.Scale.{finite}
+-- `finite_l`: the test of a row, made of all rows.
+use Rattle.std.proofs.Common.{◌≡◌, ◌∙◌, ℕ, ◌-◌, Bool, refl, arith, rules, tests}
+use Rattle.std.proofs.lemmas.Iterator.{YieldsList-from_range}
+use Rattle.std.proofs.lemmas.Iterator.Search.{all_from_yields_List}
+use lib.Ieee.{binary64}
 use Rattle.numbers.specs.NumberForm.{NumberForm, ieee}
-use Rattle.machine.specs.Readiness.{all_below}
-use Rattle.machine.proofs.Readiness.{none_below, one_more_below, false_below}
-use Rattle.storage.specs.Views.{view_l}
+use Rattle.machine.specs.Tables.{tabulate}
+use Rattle.matrices.specs.Tables.{table_l}
+use Rattle.finite_factors.proofs.Rows.{finite_list, finite_rows}
 use Rattle.finite_factors.proofs.finite_l.Goals as goal
 
 abbrev N : NumberForm
 N = ieee binary64
 
--- whether row i is finite
-abbrev row : ℕ → ℕ → List Float → ℕ → Bool
-row n stride l i = all_below n (λ j. finite (view_l N stride l i j))
-
-pub loop-i-init : goal.loop-i-init
-loop-i-init c = (omega arith, none_below _)
-
-pub returns-then-not-finite_range : goal.returns-then-not-finite_range
-returns-then-not-finite_range c =
-    let below : c.loop-i.i < c.args.n = omega arith in
-    sym (false_below c.args.n c.loop-i.i (row c.args.n c.args.stride c.args.l.now) below (sym c.finite_range.ensures ∙ c.if-not-finite_range.true))
-
-pub loop-i-preserved : goal.loop-i-preserved
-loop-i-preserved c =
-    (omega arith, one_more_below c.loop-i.i (row c.args.n c.args.stride c.args.l.now) true true c.loop-i.invariant.1 (sym (c.if-not-finite_range.false) ∙ c.finite_range.ensures))
+pub returns : goal.returns
+returns c =
+    let l = c.args.l in
+    let test : ℕ → Bool = λ i. finite_list N (tabulate l.n (table_l l i)) in
+    let whole : l.n - 0 ≡ l.n = omega arith in
+    all_from_yields_List test _ _ _ c.all.ensures.ran (YieldsList-from_range 0 l.n l.n refl whole) (λ x b q k. search (rules, tests)) ∙ finite_rows N l.n (λ i. l.n) (table_l l)

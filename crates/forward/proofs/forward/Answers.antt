@@ -1,15 +1,17 @@
 -- `forward`: row after row, and then the copy.
 use mathlib.Core.Path.{◌≡◌, refl}
-use Prim.Native.Nat.{◌-◌}
+use Prim.Native.Nat.{◌+◌, ◌-◌}
 use native.Mathlib.Omega.{arith}
 use lib.Ieee.{binary64}
+use lib.ListN.{length}
 use Rattle.numbers.specs.NumberForm.{NumberForm, ieee}
 use Rattle.machine.specs.Forward.{forward_row, forward_rows, forward}
 use Rattle.machine.specs.Counts.{forward_count}
 use Rattle.machine.proofs.Forward.{forward_row_same, copy_dense_same}
+use Rattle.ranges.proofs.Parts.{part_copied}
 use Rattle.ranges.proofs.RowParts.{part_fits}
-use Rattle.factors.proofs.Steps.{step_none, step_then, step_as}
-use Rattle.forward.proofs.Rows.{row_counted_le, rows_counted_le, forward_rows_none, forward_rows_more, forward_count_none, forward_count_more, dense_copied}
+use Rattle.factors.proofs.Steps.{same_here, step_none, step_then, step_as}
+use Rattle.forward.proofs.Rows.{forward_rows_none, forward_rows_more, forward_count_none, forward_count_more, dense_copied}
 use Rattle.forward.proofs.forward.Goals as goal
 
 abbrev N : NumberForm
@@ -21,14 +23,8 @@ loop-row-init c = record {
   last = omega arith;
   performed = step_as (λ S. S) (forward_rows_none N _ _ _ _ _ _) step_none;
   counted = forward_count_none N _ _ _ _ _ _;
+  few = omega arith;
 }
-
-pub overflow_add-steps : goal.overflow_add-steps
-overflow_add-steps c =
-    let a = c.args in
-    let k = rows_counted_le N a.numerics.epsilon a.numerics.tiny _ _ _ _ _ c.loop-row.invariant.counted in
-    let r = row_counted_le N a.numerics.epsilon a.numerics.tiny a.first a.last a.columns _ _ c.forward_row-steps.ensures.counted in
-    omega (arith, k, r)
 
 pub loop-row-preserved : goal.loop-row-preserved
 loop-row-preserved c =
@@ -46,15 +42,16 @@ loop-row-preserved c =
       counted =
           forward_count_more N a.numerics.epsilon a.numerics.tiny a.first a.last a.columns a.factors.now.n c.loop-row.row _ (omega arith) h.first (omega arith) h.counted h.performed.performed.agree
           (rw h.performed.same_storage.stride at e.counted);
+      few = omega (arith, h.few, e.few);
     }
 
-pub copy-requires : goal.copy-requires
-copy-requires c =
+pub slice_bounds-copy-end : goal.slice_bounds-copy-end
+slice_bounds-copy-end c =
     let a = c.args in
     let f = c.loop-row.factors in
     let s = c.loop-row.invariant.performed.same_storage in
-    let e = c.loop-row.invariant.performed.performed.frame.y_kept.long in
-    (part_fits f.stride a.last a.last (a.columns - a.last) c.u_index-diagonal.result (omega arith) (omega arith) c.u_index-diagonal.ensures.0 _ (omega arith) (omega arith), omega arith)
+    let d = c.u_index-diagonal in
+    part_fits f.stride a.last a.last (a.columns - a.last) d.result (omega arith) (omega arith) d.ensures.0 _ (omega arith) (omega arith)
 
 pub returns-clause-performed : goal.returns-clause-performed
 unfolding forward
@@ -63,11 +60,14 @@ returns-clause-performed c =
     let f = c.loop-row.factors in
     let h = c.loop-row.invariant in
     let s = h.performed.same_storage in
+    let d = c.u_index-diagonal in
+    let fits = part_fits f.stride a.last a.last (a.columns - a.last) d.result (omega arith) (omega arith) d.ensures.0 (length f.u.now) (omega arith) (omega arith) in
+    let copied = part_copied N d.result (d.result + (a.columns - a.last)) (a.columns - a.last) f.u.now _ refl fits c.loop-row.y a.last a.columns (omega arith) (omega arith) c.copy.ensures in
     let e : c.loop-row.row ≡ a.last = omega arith in
     step_then (rw e at h.performed)
     (record {
-      performed = dense_copied N f.stride f.n a.columns a.last c.u_index-diagonal.result _ _ _ (omega arith) (omega arith) (omega arith) c.u_index-diagonal.ensures.0 c.copy.ensures;
-      same_storage = record { dimension = refl; stride = refl; l = refl; u = refl };
+      performed = dense_copied N f.stride f.n a.columns a.last d.result _ _ _ (omega arith) (omega arith) (omega arith) d.ensures.0 copied;
+      same_storage = same_here refl refl refl refl;
     })
     (omega arith)
     (λ S R. copy_dense_same N a.numerics.epsilon a.numerics.tiny a.factors.now.n a.columns 0 (omega arith) a.last 0 (omega arith))

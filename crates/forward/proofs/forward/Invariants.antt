@@ -18,4 +18,5 @@ invariant-loop-row l = record {
   last : l.row ≤ l.last;
   performed : StepPerformed 0 l.columns 0 (forward_rows N l.numerics.epsilon l.numerics.tiny l.first l.last l.columns (l.row - l.first)) l.initial.factors l.initial.y [] l.factors l.y [];
   counted : l.steps ≡ forward_rows_count N l.numerics.epsilon l.numerics.tiny l.first l.last l.columns (l.row - l.first) (work_with l.initial.factors l.initial.y []);
+  few : l.steps ≤ l.row - l.first;
 }

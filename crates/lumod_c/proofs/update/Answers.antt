@@ -12,8 +12,8 @@ named_is : {A : Type 0} (b : Bool) (a n : A) → if b then None else Some a ≡ 
 named_is true a n e = absurd (cc)
 named_is false a n e = (refl, cc)
 
-pub returns-then-update_lacks_room : goal.returns-then-update_lacks_room
-returns-then-update_lacks_room c =
+pub returns-in_err-update_room : goal.returns-in_err-update_room
+returns-in_err-update_room c =
     let h = named_is _ _ _ (sym c.update_named.ensures.named ∙ c.in_ok-update.ensures.ok_part) in grind (arith, common_steps, to_z-of_z, h.0, h.1)
 
 pub returns : goal.returns

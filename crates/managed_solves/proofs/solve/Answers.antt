@@ -24,17 +24,12 @@ returns-in_err-test_solve c counter =
     (outcome_refused N (managed_epsilon binary64) (managed_tiny binary64) (calls.solve a.rhs.now) (lent_to_solve v a.l.now a.u.now)
     (solve_tested N v a.l.now a.u.now a.rhs.now ∙ sym c.in_err-test_solve.ensures))
 
-pub solve-requires : goal.solve-requires
-solve-requires c =
-    let r = solve_passed _ _ _ _ _ _ (sym c.in_ok-test_solve.ensures) in
-    let p = r.0 in
-    (omega (arith, p.dimension), (p.capacity, (p.L, (p.U, omega (arith, r.1)))))
-
 pub returns : goal.returns
 returns c counter =
     let a = c.args in
     let v = state_value a.n a.capacity counter in
     let passed = sym c.in_ok-test_solve.ensures in
     let r = solve_passed _ _ _ _ _ _ passed in
-    solve_outcome N (managed_epsilon binary64) (managed_tiny binary64) v a.l.now a.u.now a.rhs.now c.solve.ensures.1 r.0.dimension r.1
-    (solve_tested N v a.l.now a.u.now a.rhs.now ∙ passed) c.solve.ensures.0
+    rw c.split_at_mut-entries.ensures.value
+    (solve_outcome N v _ _ a.u.now (omega arith) r.0.dimension (managed_epsilon binary64) (managed_tiny binary64) a.rhs.now r.1
+    (rw c.split_at_mut-entries.ensures.value at (solve_tested N v a.l.now a.u.now a.rhs.now ∙ passed)) c.solve.ensures)

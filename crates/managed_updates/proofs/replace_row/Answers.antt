@@ -5,14 +5,11 @@ use Rattle.std.proofs.Common.{rules}
 use native.Mathlib.Omega.{arith}
 use Rattle.std.proofs.lemmas.Result.{err_from_is_err_and}
 use Rattle.numbers.specs.NumberForm.{NumberForm, ieee}
-use Rattle.numbers.specs.Tolerances.{managed_epsilon, managed_tiny}
-use Rattle.machine.specs.Calls as calls
-use Rattle.machine.specs.LentData.{first_non_finite}
 use Rattle.machine.specs.Machine.{accepted}
-use Rattle.managed.specs.Instance.{state_value, instance}
+use Rattle.managed.specs.Instance.{state_value}
 use Rattle.managed.proofs.Outcomes.{outcome_refused, outcome_updated}
-use Rattle.managed.proofs.Tested.{row_tested, replacement_passed}
-use Rattle.managed_updates.proofs.Updates.{room, carried_out_named}
+use Rattle.managed.proofs.Tested.{row_tested}
+use Rattle.managed_updates.proofs.Updates.{carried_out_named}
 use Rattle.managed_updates.proofs.replace_row.Goals as goal
 
 abbrev N : NumberForm
@@ -20,30 +17,11 @@ N = ieee binary64
 
 pub returns-in_err-test_replacement : goal.returns-in_err-test_replacement
 returns-in_err-test_replacement c counter =
-    let a = c.args in
-    let s = instance (state_value a.n a.capacity counter) a.l.now a.u.now a.y.now a.z.now a.w.now in
     let p = err_from_is_err_and c.from_residual.result c.from_residual.ensures.1 in
-    rw (p.1, p.2)
-    (outcome_refused N (managed_epsilon binary64) (managed_tiny binary64) (calls.replace_row a.row a.values.now) s
-    (row_tested N s a.row a.values.now ∙ sym (rw c.lengths-lent.ensures at c.in_err-test_replacement.ensures)))
-
-pub invariant_of-factors : goal.invariant_of-factors
-invariant_of-factors c =
-    let r = replacement_passed _ _ _ _ _ _ (first_non_finite N 0 c.args.values.now) (sym (rw c.lengths-lent.ensures at c.in_ok-test_replacement.ensures)) in
-    let f = room N _ r.0.storage.dimension r.0.storage in
-    record { stride_fits = f.stride; dimension = f.dimension; l_long = f.l_long; u_long = f.u_long }
-
-pub replace_row-steps-requires : goal.replace_row-steps-requires
-replace_row-steps-requires c =
-    let r = replacement_passed _ _ _ _ _ _ (first_non_finite N 0 c.args.values.now) (sym (rw c.lengths-lent.ensures at c.in_ok-test_replacement.ensures)) in
-    (r.0.y, (r.0.z, (r.0.w, (omega (arith, r.2), omega (arith, r.1)))))
+    rw (p.1, p.2) (outcome_refused N _ _ _ _ (row_tested N _ _ _ ∙ sym (rw c.lengths-lent.ensures at c.in_err-test_replacement.ensures)))
 
 pub returns : goal.returns
 unfolding accepted
 returns c counter =
-    let a = c.args in
-    let v = state_value a.n a.capacity counter in
-    let s = instance v a.l.now a.u.now a.y.now a.z.now a.w.now in
-    outcome_updated N (managed_epsilon binary64) (managed_tiny binary64) (calls.replace_row a.row a.values.now) v a.l.now a.u.now a.y.now a.z.now a.w.now _ _ refl
-    (row_tested N s a.row a.values.now ∙ sym (rw c.lengths-lent.ensures at c.in_ok-test_replacement.ensures))
-    (carried_out_named N (managed_epsilon binary64) (managed_tiny binary64) (search rules) (search rules) c.replace_row-steps.ensures.carried_out) refl refl refl (omega arith) refl
+    outcome_updated N _ _ _ (state_value c.args.n c.args.capacity counter) _ _ _ _ _ _ _ refl (row_tested N _ _ _ ∙ sym (rw c.lengths-lent.ensures at c.in_ok-test_replacement.ensures))
+    (carried_out_named N (search rules) (search rules) c.replace_row-steps.ensures.carried_out) refl refl refl (omega arith) refl

@@ -15,4 +15,4 @@ loop-four-preserved c =
     let e : 4 * (c.loop-four.four + 1) ≡ 4 * c.loop-four.four + 4 = omega arith in (omega arith, rw e (written_four N (4 * c.loop-four.four) c.loop-four.invariant.1 c.four_products.ensures))
 
 pub returns : goal.returns
-returns c = let e : c.args.n - c.args.n % 4 ≡ 4 * c.loop-four.four = omega arith in (omega arith, rw e c.loop-four.invariant.1)
+returns c = let e : c.args.l.n - c.args.l.n % 4 ≡ 4 * c.loop-four.four = omega arith in (omega arith, rw e c.loop-four.invariant.1)

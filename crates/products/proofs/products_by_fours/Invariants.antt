@@ -2,12 +2,13 @@
 use Prim.Native.Nat.{◌*◌, ◌≤◌}
 use lib.Ieee.{binary64}
 use Rattle.numbers.specs.NumberForm.{NumberForm, ieee}
+use Rattle.machine.specs.Products.{entry, product}
 use Rattle.ranges.specs.Written.{Written}
-use Rattle.products.specs.LProducts.{l_product_from}
+use Rattle.matrices.specs.Tables.{table_l}
 use Rattle.products.proofs.products_by_fours.Given as goal
 
 abbrev N : NumberForm
 N = ieee binary64
 
 abbrev pub invariant-loop-four : goal.invariant-loop-four
-invariant-loop-four l = (4 * l.four ≤ l.n) × Written N (λ k. k) (4 * l.four) (l_product_from N l.stride l.n l.l l.input l.start) l.initial.output l.output
+invariant-loop-four c = (4 * c.four ≤ c.l.n) × Written N (λ k. k) (4 * c.four) (product N c.l.n (table_l c.l) (entry N c.input)) c.initial.output c.output

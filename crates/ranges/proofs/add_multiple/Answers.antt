@@ -11,4 +11,4 @@ N = ieee binary64
 pub loop-k-preserved : goal.loop-k-preserved
 loop-k-preserved c =
     let loop = c.loop-k in
-    (omega arith, written_more N (apart N _) loop.invariant.1 (omega arith) (rw (unwritten N (apart N _) loop.invariant.1)))
+    written_more N (apart N _) loop.invariant (omega arith) (rw (unwritten N (apart N _) loop.invariant))

@@ -1,5 +1,4 @@
 -- `add_multiple`: one entry a turn, of which the old value is still there.
-use Prim.Native.Nat.{◌≤◌}
 use lib.Ieee.{binary64}
 use Rattle.numbers.specs.NumberForm.{NumberForm, ieee}
 use Rattle.ranges.specs.Written.{Written}
@@ -10,4 +9,4 @@ abbrev N : NumberForm
 N = ieee binary64
 
 abbrev pub invariant-loop-k : goal.invariant-loop-k
-invariant-loop-k l = (l.k ≤ l.count) × Written N (λ k. k) l.k (multiple_added N l.initial.target l.source l.start l.factor) l.initial.target l.target
+invariant-loop-k l = Written N (λ j. j) l.k (multiple_added N l.initial.target l.source l.factor) l.initial.target l.target

@@ -2,9 +2,12 @@
 use native.Mathlib.Omega.{arith}
 use lib.Ieee.{binary64}
 use Rattle.numbers.specs.NumberForm.{NumberForm, ieee}
+use Rattle.machine.proofs.Products.{product_same}
 use Rattle.machine.proofs.Solves.{back_substitution_same}
-use Rattle.storage.specs.Views.{view_u}
+use Rattle.storage.proofs.Kept.{kept_more}
+use Rattle.ranges.proofs.Parts.{front_copied}
 use Rattle.ranges.proofs.Vectors.{written_as, written_over}
+use Rattle.matrices.specs.Tables.{table_l, table_u}
 use Rattle.solves.proofs.solve.Goals as goal
 
 abbrev N : NumberForm
@@ -12,5 +15,11 @@ N = ieee binary64
 
 pub returns : goal.returns
 returns c =
-    let U = view_u N c.args.capacity c.args.u.now in
-    (written_over N c.apply_l.ensures.0 (written_as N _ (back_substitution_same N c.args.n U U (λ i j _ _ _. U i j) _ _ c.apply_l.ensures.0.value c.args.n (omega arith)) c.back_substitute.ensures), c.apply_l.ensures.1)
+    let n = c.args.l.n in
+    let L = table_l c.args.l in
+    let U = table_u c.args.u in
+    let copied = front_copied N n c.args.work.now _ (omega arith) c.args.b.now (omega arith) c.copy.ensures in
+    let product = written_as N _ (product_same N n L L _ _ (λ i j _ _ _. L i j) copied.value) c.l_product.ensures in (
+      written_over N product (written_as N _ (back_substitution_same N n U U (λ i j _ _ _. U i j) _ _ product.value n (omega arith)) (rw c.requires.0 at c.back_substitute.ensures)),
+      kept_more N (λ q w. omega arith) copied.kept,
+    )

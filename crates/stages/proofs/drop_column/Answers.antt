@@ -1,8 +1,12 @@
 -- `drop_column`: as in replace column, with U's last column in its place.
+use mathlib.Core.Path.{refl}
+use Prim.Native.Nat.{◌+◌, ◌-◌}
 use native.Mathlib.Omega.{arith}
 use lib.Ieee.{binary64}
 use Rattle.numbers.specs.NumberForm.{NumberForm, ieee}
-use Rattle.factors.proofs.Steps.{same_storage_refl}
+use Rattle.matrices.proofs.Columns.{column_read}
+use Rattle.factors.proofs.Columns.{written_from}
+use Rattle.factors.proofs.Steps.{same_here, same_storage_then}
 use Rattle.stages.proofs.StageLaws.{column_dropped_outcome, last_column_dropped}
 use Rattle.stages.proofs.drop_column.Goals as goal
 
@@ -14,11 +18,17 @@ returns-then-column-last c =
     let a = c.args in
     let f = a.factors.now in
     let p = c.requires in
+    let put = c.write_u_column.ensures in
+    let s = put.same_storage in
     let e = c.restore.ensures in
+    let read = column_read N (f.n - 1 + 1) a.w.now _ (omega arith) c.read_column.ensures in
+    let written = written_from N (a.column + 1) _ (omega (arith, read.kept.long)) put.u in
+    let performed = rw (s.stride, s.dimension, put.l) at e.performed.performed in
+    let counted = rw (s.stride, put.l) at e.counted in
     let r =
     column_dropped_outcome N a.numerics.epsilon a.numerics.tiny f.stride f.n a.column f.l.now f.u.now a.y.now
-    a.w.now _ _ (omega arith) (omega arith) c.read_u_column.ensures c.write_u_column.ensures (e.performed.performed, e.counted) in
-    record { updated = r.0; counted = r.1; same_storage = record { dimension = e.performed.same_storage.dimension; stride = e.performed.same_storage.stride; l = e.performed.same_storage.l; u = e.performed.same_storage.u } }
+    a.w.now _ _ (omega arith) (omega arith) read written (performed, counted) in
+    record { updated = r.0; counted = r.1; few = e.few; same_storage = same_storage_then (same_here s.dimension s.stride s.l s.u) e.performed.same_storage }
 
 pub returns : goal.returns
 returns c =
@@ -26,4 +36,4 @@ returns c =
     let r =
     last_column_dropped N c.args.numerics.epsilon c.args.numerics.tiny f.stride f.n c.args.column f.l.now f.u.now
     c.args.y.now c.args.w.now (omega arith) in
-    record { updated = r.0; counted = r.1; same_storage = same_storage_refl }
+    record { updated = r.0; counted = r.1; few = omega arith; same_storage = same_here refl refl refl refl }

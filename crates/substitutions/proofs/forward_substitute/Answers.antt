@@ -3,6 +3,7 @@ use mathlib.Core.Path.{refl}
 use native.Mathlib.Omega.{arith}
 use lib.Ieee.{binary64}
 use Rattle.numbers.specs.NumberForm.{NumberForm, ieee}
+use Rattle.matrices.specs.Tables.{table_u}
 use Rattle.substitutions.proofs.Rows.{forward_none, forward_more}
 use Rattle.substitutions.proofs.forward_substitute.Goals as goal
 
@@ -14,9 +15,5 @@ loop-row-init c = (omega arith, forward_none N _ _ _)
 
 pub loop-row-preserved : goal.loop-row-preserved
 loop-row-preserved c =
-    let k = c.loop-row.invariant.1.kept.long in (
-      omega arith,
-      forward_more N c.args.stride c.args.n c.loop-row.row c.u_index-diagonal.result c.args.u.now c.args.b.now c.loop-row.b (omega arith) (omega arith) (omega arith)
-          c.u_index-diagonal.ensures.0 refl
-          c.loop-row.invariant.1 c.dot_u_column-sum.ensures,
-    )
+    let k = c.loop-row.invariant.1.kept.long in
+    (omega arith, forward_more N c.args.u.n c.loop-row.row (table_u c.args.u) c.args.b.now c.loop-row.b (omega arith) (omega arith) c.entry.ensures refl c.loop-row.invariant.1 c.dot_column-sum.ensures)

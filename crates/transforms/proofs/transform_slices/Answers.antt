@@ -2,17 +2,22 @@
 use mathlib.Core.Path.{◌≡◌}
 use native.Mathlib.Omega.{arith}
 use lib.Ieee.{binary64}
+use lib.ListN.{length}
 use Rattle.numbers.specs.NumberForm.{NumberForm, ieee}
+use Rattle.ranges.proofs.Writing.{written_none}
 use Rattle.transforms.proofs.Pairs.{firsts_more, seconds_more}
 use Rattle.transforms.proofs.transform_slices.Goals as goal
 
 abbrev N : NumberForm
 N = ieee binary64
 
+pub loop-k-init : goal.loop-k-init
+loop-k-init c = (written_none N, written_none N)
+
 pub loop-k-preserved : goal.loop-k-preserved
 loop-k-preserved c =
-    let t = c.args.transform in let a = c.args in
-    (omega arith, (firsts_more N _ _ a.x a.y _ _ _ c.loop-k.invariant.1.0 c.loop-k.invariant.1.1 (omega arith) c.apply_pair.ensures.0, seconds_more N _ _ a.x a.y _ _ _ c.loop-k.invariant.1.0 c.loop-k.invariant.1.1 (omega arith) c.apply_pair.ensures.1))
+    let h = c.loop-k.invariant in
+    (firsts_more N _ _ _ _ _ h.0 h.1 (omega arith) c.apply_pair.ensures.0, seconds_more N _ _ _ _ _ h.0 h.1 (omega arith) c.apply_pair.ensures.1)
 
 pub returns : goal.returns
-returns c = let e : c.loop-k.k ≡ c.args.count = omega arith in rw e at c.loop-k.invariant.1
+returns c = let e : c.loop-k.k ≡ length c.args.xs.now = omega arith in rw e at c.loop-k.invariant

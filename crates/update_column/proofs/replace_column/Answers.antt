@@ -1,9 +1,11 @@
 -- `replace_column`: the column, and where it is not the last the triangle restored.
-use mathlib.Core.Path.{refl}
+use Prim.Native.Nat.{◌+◌}
 use native.Mathlib.Omega.{arith}
 use lib.Ieee.{binary64}
 use Rattle.numbers.specs.NumberForm.{NumberForm, ieee}
-use Rattle.factors.proofs.Steps.{same_here}
+use Rattle.factors.specs.SameStorage.{SameStorage}
+use Rattle.factors.proofs.Columns.{written_from}
+use Rattle.factors.proofs.Steps.{same_here, same_storage_then}
 use Rattle.update_column.proofs.ColumnReplaced.{column_outcome, last_column_outcome}
 use Rattle.update_column.proofs.replace_column.Goals as goal
 
@@ -15,20 +17,26 @@ returns-then-column-n c =
     let a = c.args in
     let f = a.factors.now in
     let p = c.requires in
+    let put = c.write_u_column.ensures in
+    let q = put.same_storage in
+    let s : SameStorage f c.write_u_column.new.self = same_here q.dimension q.stride q.l q.u in
     let e = c.restore.ensures in record {
       carried_out =
           column_outcome N a.numerics.epsilon a.numerics.tiny f.stride f.n a.column f.l.now f.u.now a.y.now
-          a.z.now a.w.now _ _ (omega arith) (omega arith) c.l_product.ensures c.write_u_column.ensures (omega (arith, c.if-column-n.true)) (e.performed.performed, e.counted);
-      same_storage = same_here e.performed.same_storage.dimension e.performed.same_storage.stride e.performed.same_storage.l e.performed.same_storage.u;
+          a.z.now a.w.now _ _ (omega arith) (omega arith) c.l_product.ensures (written_from N (a.column + 1) _ (omega arith) put.u) (omega (arith, c.if-column-n.true))
+          (rw (s.stride, s.dimension, put.l) at e.performed.performed, rw (s.stride, put.l) at e.counted);
+      same_storage = same_storage_then s e.performed.same_storage;
     }
 
 pub returns : goal.returns
 returns c =
     let a = c.args in
     let f = a.factors.now in
-    let p = c.requires in record {
+    let p = c.requires in
+    let put = c.write_u_column.ensures in
+    let q = put.same_storage in record {
       carried_out =
-          last_column_outcome N a.numerics.epsilon a.numerics.tiny f.stride f.n a.column f.l.now f.u.now
-          a.y.now a.z.now a.w.now _ _ (omega arith) (omega arith) c.l_product.ensures c.write_u_column.ensures (omega arith);
-      same_storage = same_here refl refl refl refl;
+          rw put.l (last_column_outcome N a.numerics.epsilon a.numerics.tiny f.stride f.n a.column f.l.now f.u.now
+          a.y.now a.z.now a.w.now _ _ (omega arith) (omega arith) c.l_product.ensures (written_from N (a.column + 1) _ (omega arith) put.u) (omega arith));
+      same_storage = same_here q.dimension q.stride q.l q.u;
     }

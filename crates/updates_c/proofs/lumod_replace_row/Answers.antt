@@ -1,4 +1,5 @@
 -- `lumod_replace_row`: the outcome of `LuMod::replace_row`, its number, and the place that it names.
+-- `using(returned_staying)` in the attribute does not close this goal, nor that of `lumod_replace_column`.
 use mathlib.Core.Path.{refl}
 use lib.Ieee.{binary64}
 use Rattle.answers.proofs.Returns.{returned_staying}

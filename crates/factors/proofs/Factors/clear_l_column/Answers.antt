@@ -1,0 +1,25 @@
+-- `clear_l_column`: one entry a turn.
+use mathlib.Core.Path.{refl}
+use native.Mathlib.Omega.{arith}
+use lib.Ieee.{binary64}
+use Rattle.numbers.specs.NumberForm.{NumberForm, ieee}
+use Rattle.ranges.proofs.Writing.{stored}
+use Rattle.factors.proofs.ColumnPlaces.{l_index_column_apart}
+use Rattle.factors.proofs.Steps.{same_here}
+use Rattle.factors.proofs.Factors.clear_l_column.Goals as goal
+
+abbrev N : NumberForm
+N = ieee binary64
+
+pub loop-i-preserved : goal.loop-i-preserved
+loop-i-preserved c =
+    let done = c.loop-i.invariant.1 in
+    let s = done.same_storage in
+    let place = rw s.stride at c.l_index.ensures.0 in (
+      omega arith,
+      record {
+        l = stored N (λ j. l_index_column_apart _ _ _ j (omega arith)) done.l place (omega arith) refl;
+        u = done.u;
+        same_storage = same_here s.dimension s.stride s.l s.u;
+      },
+    )
