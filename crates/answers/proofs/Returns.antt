@@ -4,6 +4,7 @@ use mathlib.Core.Bool.{Bool, true, false}
 use mathlib.Core.List.{List}
 use Prim.Native.Nat.{ℕ}
 use lib.Ieee.{Float, Format}
+use Rattle.std.specs.Prelude.{Result, Ok, Err, MatchResult}
 use Rattle.numbers.specs.NumberForm.{NumberForm, ieee}
 use Rattle.numbers.specs.Tolerances.{managed_epsilon, managed_tiny}
 use Rattle.machine.specs.Calls.{Call, push, replace_row, replace_column, remove, solve, solve_transpose, Answer, number_of, is_update}
@@ -13,7 +14,15 @@ use Rattle.managed.specs.Outcome.{report}
 use Rattle.managed.specs.Demands.{ManagedOutcome}
 use Rattle.managed.proofs.Outcomes.{dimension_stays}
 use Rattle.managed.proofs.Counted.{with_counter, solve_at_any}
+use Rattle.refusals.specs.declared.Refusal.{Refusal}
+use Rattle.refusals.specs.Refusal.{refusal_of, answer_of}
 use Rattle.answers.specs.Returned.{Returned}
+
+-- the number that a result returns, 0 or its refusal's, is that of the answer
+pub answer_number : {A : Type 0} {number : ℕ} (r : Result A Refusal)
+    → MatchResult r (λ _. number ≡ 0) (λ refusal. number ≡ number_of (refusal_of refusal)) → number ≡ number_of (answer_of r)
+answer_number (Ok v) e = e
+answer_number (Err refusal) e = e
 
 -- the calls that keep the dimension: all but push and remove
 abbrev pub keeps_dimension : {A : Type 0} → Call A → Bool

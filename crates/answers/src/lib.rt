@@ -2,23 +2,12 @@
 #![tactic(auto)]
 
 ghost use Rattle.std.specs.Prelude.{◌≡◌};
-ghost use Rattle.machine.specs.Calls.{number_of};
 ghost use Rattle.refusals.specs.Refusal.{answer_of};
 ghost use Rattle.api.specs.Answers.{remove_answer_of};
 ghost use Rattle.answers.specs.Numbers.{index_after, moved_row_after, moved_column_after};
 
 use api::Removal;
 use refusals::Refusal;
-
-// The number of an answer: 0, or its refusal's.
-pub fn answer_number<T: Copy>(answer: Result<T, Refusal>) -> u32
-    ensures { result ≡ number_of (answer_of answer) }
-{
-    match answer {
-        Ok(_) => 0,
-        Err(refusal) => refusal.into(),
-    }
-}
 
 // The index that a refusal names, of a diagonal or of a place in the data, or else `old`.
 pub fn named_index<T: Copy>(answer: Result<T, Refusal>, old: usize) -> usize

@@ -5,19 +5,21 @@ use mathlib.Core.List.{List}
 use Prim.Native.Nat.{ℕ, suc, ◌+◌, ◌-◌, ◌≤◌, ◌<◌}
 use native.Mathlib.Omega.{arith}
 use lib.Dec.{leb, ltb}
+use lib.ListN.{length, take}
+use borrow.Rule.Slice.PartMut.{put_mid}
 use Rattle.numbers.specs.NumberForm.{NumberForm}
-use Rattle.machine.specs.Tables.{Work}
+use Rattle.machine.specs.Tables.{Vector, Work, tabulate}
 use Rattle.machine.specs.Products.{entry}
 use Rattle.machine.specs.Backward.{copy_row_to_dense, backward_row, backward_rows}
 use Rattle.machine.specs.Agreement.{AgreeWithin}
 use Rattle.machine.specs.Counts.{backward_row_count, backward_rows_count}
-use Rattle.machine.proofs.Choice.{pick, out_of_range}
+use Rattle.machine.proofs.Choice.{pick, out_of_range, tabulate_at, tabulate_length}
 use Rattle.machine.proofs.Counts.{backward_row_count_same}
-use Rattle.storage.specs.Places.{u_index}
+use Rattle.storage.specs.Views.{view_u}
 use Rattle.storage.proofs.Kept.{kept_more}
 use Rattle.storage.proofs.Frames.{frame_y}
 use Rattle.ranges.specs.Written.{from, Written}
-use Rattle.ranges.proofs.RowParts.{part_place}
+use Rattle.ranges.proofs.Parts.{part_written, front_length, front_entry}
 use Rattle.buffers.specs.Performed.{Performed}
 
 module _ (N : NumberForm) where
@@ -55,17 +57,26 @@ module _ (N : NumberForm) where
 
   -- ---- U's row into y
 
-  pub row_copied : (c n columns selected d : ℕ) (l u y v : List Value) {y' : List Value} → n ≤ c → columns ≤ n → selected ≤ columns → d ≡ u_index c selected selected
-      → Written N (from selected) (columns - selected) (λ k. entry N u (d + k)) y y' → Performed N c n selected columns n (copy_row_to_dense selected columns) l u y v l u y' v
+  -- what `copy(&mut y[selected..columns], &row[..columns - selected])` leaves, where row holds the first m entries of f
+  pub row_part : (selected columns m : ℕ) (f : Vector Value) (row y ys : List Value) → selected ≤ columns → columns ≤ length y → columns - selected ≤ m → row ≡ tabulate m f
+      → ys ≡ take (columns - selected) row → Written N (from selected) (columns - selected) f y (put_mid selected (columns - selected) y ys)
+  row_part selected columns m f row y ys hs hy hm is_row e =
+      let count = columns - selected in
+      let long : count ≤ length row = rw (is_row, tabulate_length m f) hm in
+      part_written N selected columns count y ys (omega arith) hy (rw e (front_length N count row long))
+      (λ j h. rw e (front_entry N count row j h long ∙ rw is_row (tabulate_at m f N.absent j (omega arith))))
+
+  pub row_copied : (c n columns selected : ℕ) (l u y v : List Value) {y' : List Value} → n ≤ c → columns ≤ n → selected ≤ columns
+      → Written N (from selected) (columns - selected) (λ k. view_u N c u selected (selected + k)) y y'
+      → Performed N c n selected columns n (copy_row_to_dense selected columns) l u y v l u y' v
   unfolding copy_row_to_dense
-  row_copied c n columns selected d l u y v {y'} hc hk hs is-d ys = record {
+  row_copied c n columns selected l u y v {y'} hc hk hs ys = record {
     agree = record {
       L = λ i j a b. refl;
       U = λ i j a b. refl;
       y = λ j a b. pick (leb selected j && ltb j columns)
           (λ s. let back : selected + (j - selected) ≡ j = omega arith in
-          ap (entry N y') (sym back) ∙ ys.value (j - selected) (omega arith)
-          ∙ ap (entry N u) (part_place c selected selected (columns - selected) d (omega arith) (omega arith) is-d (j - selected) (omega arith) ∙ ap (u_index c selected) back))
+          ap (entry N y') (sym back) ∙ ys.value (j - selected) (omega arith) ∙ ap (view_u N c u selected) back)
           (λ s. absurd (omega (arith, out_of_range selected columns j s a)));
       v = λ j a. refl;
     };

@@ -16,7 +16,6 @@ use factors::Factors;
 use numerics::real::abs;
 use numerics::tolerance::Numerics;
 use ranges::copy;
-use storage::u_index;
 
 // From `last` down to `first`, past entries of v that are at most epsilon.
 pub fn trim(first: usize, last: usize, v: &[f64], epsilon: f64) -> usize
@@ -78,12 +77,9 @@ pub fn backward(
     ensures counted { result ≡ backward_count (ieee binary64) numerics.epsilon numerics.tiny first selected columns (work_with factors.old y.old v.old) }
     ensures few { result ≤ selected - first }
 {
-    let diagonal = u_index(selected, selected, factors.stride);
-    // U is lent whole first: where a part of the field itself is lent to be read, a proof knows only U's length afterwards.
-    let u: &[f64] = &mut *factors.u;
     copy(
         &mut y[selected..columns],
-        &u[diagonal..diagonal + (columns - selected)],
+        &factors.u().row(selected)[..columns - selected],
     );
     backward_rows(first, selected, columns, factors, y, v, numerics)
 }

@@ -48,7 +48,7 @@ pub fn backward_row(
     v[selected] = pivot;
     v[row] = value;
     let diagonal = u_index(row, row, stride);
-    // U's row is cut here and not by a method: that would need a contract on what it lends, and `columns` may be all columns or one fewer.
+    // U's row is cut here and not by a method: of a part that a method lends to be written, a caller knows the length alone afterwards.
     transform_slices(
         &mut y[row..columns],
         &mut factors.u[diagonal..diagonal + (columns - row)],

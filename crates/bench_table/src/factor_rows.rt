@@ -1,10 +1,10 @@
 // The rows of the table on factors, by the managed calls at capacity 2. L and U are printed entry by entry, U by rows of the triangle.
 use crate::shown::{Double, Pair, Refused};
-use api::{ColumnIndex, LuMod, Removal, RowIndex, UpdateResult};
+use api::{CallResult, ColumnIndex, LuMod, Removal, RowIndex, UpdateResult};
 use refusals::Refusal;
 use std::{fmt, io};
 
-// The state, L and U, and the workspaces.
+// The state, L and U, and the workspaces, which are three fields: the check does not cover them lent out of one array.
 #[derive(Clone, Copy)]
 struct Factors {
     state: LuMod,
@@ -39,72 +39,34 @@ impl Factors {
         p
     }
 
-    // The counter of the state is what the pushes made so far. The struct is taken apart: the check does not cover y, z and w lent out of one array.
+    // Makes the update that `call` makes of the state, L, U and the workspaces, and stores the state that it hands back.
+    fn update<T: Copy, F>(&mut self, call: F) -> UpdateResult<T>
+    where
+        F: FnOnce(
+            LuMod,
+            &mut [f64],
+            &mut [f64],
+            &mut [f64],
+            &mut [f64],
+            &mut [f64],
+        ) -> UpdateResult<T>,
+        requires { F.IsAlwaysCallable call }
+    {
+        let updated = call(
+            self.state,
+            &mut self.l,
+            &mut self.u,
+            &mut self.y,
+            &mut self.z,
+            &mut self.w,
+        );
+        self.state = updated.state;
+        updated
+    }
+
+    // The counter of the state is what the pushes made so far.
     fn push(&mut self, row: &[f64], column: &[f64], diagonal: f64) {
-        let Factors {
-            state,
-            l,
-            u,
-            y,
-            z,
-            w,
-        } = self;
-        let pushed = state.push(l, u, y, z, w, row, column, diagonal);
-        *state = pushed.state;
-    }
-
-    // Replaces a row, and answers how many pair steps that took.
-    fn replace_row(&mut self, row: usize, values: &[f64]) -> usize {
-        let Factors {
-            state,
-            l,
-            u,
-            y,
-            z,
-            w,
-        } = self;
-        let replaced = state.replace_row(l, u, y, z, w, RowIndex(row), values);
-        *state = replaced.state;
-        replaced.steps
-    }
-
-    // The same of a column.
-    fn replace_column(&mut self, column: usize, values: &[f64]) -> usize {
-        let Factors {
-            state,
-            l,
-            u,
-            y,
-            z,
-            w,
-        } = self;
-        let replaced = state.replace_column(l, u, y, z, w, ColumnIndex(column), values);
-        *state = replaced.state;
-        replaced.steps
-    }
-
-    fn remove(&mut self, row: usize, column: usize) -> UpdateResult<Removal> {
-        let Factors {
-            state,
-            l,
-            u,
-            y,
-            z,
-            w,
-        } = self;
-        let removed = state.remove(l, u, y, z, w, RowIndex(row), ColumnIndex(column));
-        *state = removed.state;
-        removed
-    }
-
-    fn solve(&mut self, rhs: &mut [f64]) -> Result<(), Refusal> {
-        let Factors { state, l, u, .. } = self;
-        state.solve_in_place(l, u, rhs).answer
-    }
-
-    fn solve_transpose(&mut self, rhs: &mut [f64]) -> Result<(), Refusal> {
-        let Factors { state, l, u, .. } = self;
-        state.solve_transpose_in_place(l, u, rhs).answer
+        self.update(|state, l, u, y, z, w| state.push(l, u, y, z, w, row, column, diagonal));
     }
 }
 
@@ -130,42 +92,60 @@ fn refusal(rt: &impl Print, answer: Result<(), Refusal>) -> io::Result<()> {
     Ok(())
 }
 
-pub fn solved(rt: &impl Print) -> io::Result<()> {
-    let given = [8.0, 5.0];
+// Prints the solution that `call` finds for P and a right-hand side.
+fn solution<F>(rt: &impl Print, name: &str, given: [f64; 2], call: F) -> io::Result<()>
+where
+    F: FnOnce(LuMod, &mut [f64], &[f64], &mut [f64]) -> CallResult,
+    requires { F.IsAlwaysCallable call }
+{
+    let mut p = Factors::p();
     let mut rhs = given;
-    let answer = Factors::p().solve(&mut rhs);
-    print!(rt; "P, solve {}: ", Pair(given))?;
-    refusal(rt, answer)?;
+    let solved = call(p.state, &mut p.l, &p.u, &mut rhs);
+    print!(rt; "P, {name} {}: ", Pair(given))?;
+    refusal(rt, solved.answer)?;
     println!(rt; "{}", Pair(rhs))
+}
+
+pub fn solved(rt: &impl Print) -> io::Result<()> {
+    solution(rt, "solve", [8.0, 5.0], LuMod::solve_in_place)
 }
 
 pub fn transpose_solved(rt: &impl Print) -> io::Result<()> {
-    let given = [6.0, 7.0];
-    let mut rhs = given;
-    let answer = Factors::p().solve_transpose(&mut rhs);
-    print!(rt; "P, transpose solve {}: ", Pair(given))?;
-    refusal(rt, answer)?;
-    println!(rt; "{}", Pair(rhs))
+    solution(
+        rt,
+        "transpose solve",
+        [6.0, 7.0],
+        LuMod::solve_transpose_in_place,
+    )
+}
+
+// Prints P after `call` has replaced its row or column 0 by values.
+fn replacement<F>(rt: &impl Print, name: &str, values: [f64; 2], call: F) -> io::Result<()>
+where
+    F: FnOnce(&mut Factors, &[f64]) -> UpdateResult<()>,
+    requires { F.IsAlwaysCallable call }
+{
+    let mut p = Factors::p();
+    let replaced = call(&mut p, &values);
+    println!(rt;
+        "P, replace {name} 0 by {}: {p}; pair steps {}",
+        Pair(values),
+        replaced.steps
+    )
 }
 
 pub fn column_replaced(rt: &impl Print) -> io::Result<()> {
-    let values = [1.0, 8.0];
-    let mut p = Factors::p();
-    let steps = p.replace_column(0, &values);
-    println!(rt;
-        "P, replace column 0 by {}: {p}; pair steps {steps}",
-        Pair(values)
-    )
+    replacement(rt, "column", [1.0, 8.0], |p, values| {
+        p.update(|state, l, u, y, z, w| {
+            state.replace_column(l, u, y, z, w, ColumnIndex(0), values)
+        })
+    })
 }
 
 pub fn row_replaced(rt: &impl Print) -> io::Result<()> {
-    let values = [1.0, 1.0];
-    let mut p = Factors::p();
-    let steps = p.replace_row(0, &values);
-    println!(rt;
-        "P, replace row 0 by {}: {p}; pair steps {steps}",
-        Pair(values)
-    )
+    replacement(rt, "row", [1.0, 1.0], |p, values| {
+        p.update(|state, l, u, y, z, w| state.replace_row(l, u, y, z, w, RowIndex(0), values))
+    })
 }
 
 fn article<T: Copy>(moved: Option<T>) -> &'static str {
@@ -181,7 +161,9 @@ fn moved(rt: &impl Print, removal: Removal) -> io::Result<()> {
 
 pub fn removed(rt: &impl Print) -> io::Result<()> {
     let mut p = Factors::p();
-    let removed = p.remove(1, 1);
+    let removed = p.update(|state, l, u, y, z, w| {
+        state.remove(l, u, y, z, w, RowIndex(1), ColumnIndex(1))
+    });
     print!(rt;
         "P, remove 1, 1: L {}, U {}",
         Double(p.l[0]),
@@ -199,8 +181,10 @@ pub fn refused(rt: &impl Print) -> io::Result<()> {
     let mut factors = Factors::empty();
     factors.push(&[], &[], -0.0);
     let mut rhs = [5.0];
-    let answer = factors.solve(&mut rhs);
+    let solved = factors
+        .state
+        .solve_in_place(&mut factors.l, &factors.u, &mut rhs);
     print!(rt; "push d -0, solve (5): ")?;
-    refusal(rt, answer)?;
+    refusal(rt, solved.answer)?;
     println!(rt; "({})", Double(rhs[0]))
 }

@@ -40,7 +40,7 @@ pub fn test_diagonal(u: PackedU<'_>) -> Result<(), BadDiagonal>
 {
     // A loop is the plainer form: it is left in two ways, each with an error of its own. A closure would answer an Option or a Result at each diagonal.
     for i in 0..u.n {
-        let value = u.entry(i, i);
+        let value = u.get(i, i);
         if value == 0.0 {
             return Err(BadDiagonal::Zero(i));
         }

@@ -1,4 +1,4 @@
-// The factors that an update changes, in the storage that is lent to it; parts.rt has the parts that are written at once.
+// The factors that an update changes, in the storage that is lent to it; parts.rt has its parts.
 #![tactic(auto)]
 
 ghost use Rattle.std.specs.Prelude.{◌*◌, ◌^◌, ◌≤◌, ◌<◌, length};

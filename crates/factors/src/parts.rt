@@ -1,18 +1,48 @@
-// Parts of the factors that are written at once: columns of L and of U, and a row of L.
+// L and U to be read, and the parts that are written at once: columns and a row of each.
 
-ghost use Rattle.std.specs.Prelude.{◌+◌, ◌≤◌, ◌<◌, length};
+ghost use Rattle.std.specs.Prelude.{◌≡◌, ◌+◌, ◌≤◌, ◌<◌, length};
 ghost use Rattle.std.specs.Float.{binary64};
 ghost use Rattle.numbers.specs.NumberForm.{ieee};
 ghost use Rattle.machine.specs.Products.{entry};
 ghost use Rattle.machine.specs.Updates.{with_unit_row};
 ghost use Rattle.storage.specs.Places.{l_index, u_index};
 ghost use Rattle.storage.specs.Views.{view_l};
+ghost use Rattle.ranges.specs.Written.{from};
 ghost use Rattle.factors.specs.PartsWritten.{LWritten, LRewritten, UWritten};
 
 use crate::Factors;
+use matrices::dense_l::DenseL;
+use matrices::packed_u::PackedU;
+use ranges::copy;
 use storage::{l_index, u_index};
 
 impl Factors<'_> {
+    // L, to be read.
+    pub fn l(&self) -> DenseL<'_>
+        ensures dimension { result.n ≡ self.now.n }
+        ensures stride { result.stride ≡ self.now.stride }
+        ensures entries { result.entries.now ≡ self.now.l.now }
+    {
+        DenseL {
+            n: self.n,
+            stride: self.stride,
+            entries: self.l,
+        }
+    }
+
+    // U, to be read.
+    pub fn u(&self) -> PackedU<'_>
+        ensures dimension { result.n ≡ self.now.n }
+        ensures stride { result.stride ≡ self.now.stride }
+        ensures entries { result.entries.now ≡ self.now.u.now }
+    {
+        PackedU {
+            n: self.n,
+            stride: self.stride,
+            entries: self.u,
+        }
+    }
+
     // L(i, column) becomes +0 for i below rows.
     pub fn clear_l_column(&mut self, column: usize, rows: usize)
         requires { (column < self.old.stride) × (rows ≤ self.old.stride) }
@@ -42,6 +72,15 @@ impl Factors<'_> {
         let start = row * self.stride;
         self.l[start..start + self.n].fill(0.0);
         self.l[start + column] = 1.0;
+    }
+
+    // U(row, row + k) takes values[k], for each of `values`, which end before the dimension or with it.
+    pub fn write_u_row(&mut self, row: usize, values: &[f64])
+        requires { (row < self.old.n) × (row + length values.now ≤ self.old.n) }
+        ensures { UWritten (from (u_index self.old.stride row row)) (length values.now) (entry (ieee binary64) values.now) self.old self.new }
+    {
+        let diagonal = u_index(row, row, self.stride);
+        copy(&mut self.u[diagonal..diagonal + values.len()], values);
     }
 
     // U(i, column) takes values[i], for each of `values`, which go no further than the diagonal.

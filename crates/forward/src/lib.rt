@@ -12,8 +12,6 @@ ghost use Rattle.factors.specs.StepPerformed.{work_with, StepPerformed};
 use factors::Factors;
 use forward_row::forward_row;
 use numerics::tolerance::Numerics;
-use ranges::copy;
-use storage::u_index;
 
 // The rows from `first` to last - 1; then U's row `last` takes y, from `last` on below `columns`.
 // It answers how many pair steps it made.
@@ -37,11 +35,6 @@ pub fn forward(
     for row in first..last {
         steps += forward_row(row, last, columns, factors, y, numerics);
     }
-    // U's row is cut here and not by a method: that would need a contract on what it lends, and `columns` may be all columns or one fewer.
-    let diagonal = u_index(last, last, factors.stride);
-    copy(
-        &mut factors.u[diagonal..diagonal + (columns - last)],
-        &y[last..columns],
-    );
+    factors.write_u_row(last, &y[last..columns]);
     steps
 }

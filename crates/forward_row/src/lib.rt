@@ -43,7 +43,7 @@ pub fn forward_row(
         let transform = elementary(&mut pivot, &mut value, numerics.tiny);
         factors.u[diagonal] = pivot;
         y[row] = value;
-        // U's row is cut here and not by a method: that would need a contract on what it lends, and `columns` may be all columns or one fewer.
+        // U's row is cut here and not by a method: of a part that a method lends to be written, a caller knows the length alone afterwards.
         transform_slices(
             &mut factors.u[diagonal + 1..diagonal + (columns - row)],
             &mut y[row + 1..columns],

@@ -1,7 +1,7 @@
-// The sizes and the indices that a C host's numbers stand for.
+// The sizes and the indices that the numbers of a C host stand for, and the number that a call returns to it.
 #![tactic(auto)]
 
-ghost use Rattle.std.specs.Prelude.{◌≡◌, ◌^◌, ◌<◌};
+ghost use Rattle.std.specs.Prelude.{◌≡◌, ◌^◌, ◌<◌, MatchResult};
 ghost use Rattle.host_numbers.specs.Numbers.{size_of, stride_of, index_of};
 
 // A number as a size, 0 where it is negative.
@@ -23,4 +23,14 @@ pub fn index_below(index: i32, n: usize) -> Option<usize>
     ensures { result ≡ index_of index n }
 {
     usize::try_from(index).ok().filter(|k| *k < n)
+}
+
+// What a call returns to its host: 0, or the number of its refusal.
+pub fn result_number<T: Copy, E: Into<u32>>(outcome: Result<T, E>) -> u32
+    ensures { MatchResult outcome (λ _. result ≡ 0) (λ refusal. E.converts refusal result) }
+{
+    match outcome {
+        Ok(_) => 0,
+        Err(refusal) => refusal.into(),
+    }
 }

@@ -9,7 +9,7 @@ ghost use Rattle.lumod_c.specs.declared.Refusal.TheVariants as refusal;
 ghost use Rattle.lumod_c.specs.Outcome.{ProductOutcome, SolveOutcome, UpdateOutcome, refusal_value, outcome_number};
 
 use factors::Factors;
-use host_numbers::{size, stride};
+use host_numbers::{result_number, size, stride};
 use matrices::dense_l::DenseL;
 use matrices::packed_u::PackedU;
 use products::{l_product, l_product_transposed};
@@ -43,16 +43,6 @@ impl From<Refusal> for u32 {
     }
 }
 
-// What a call returns to the host.
-fn number(outcome: Result<(), Refusal>) -> u32
-    ensures { result ≡ outcome_number outcome }
-{
-    match outcome {
-        Ok(()) => 0,
-        Err(refusal) => refusal.into(),
-    }
-}
-
 // Updates the factors. Mode 1 appends a row and a column (n is the new dimension; row and diagonal in y, column in z), 2 replaces column kcol by z, 3 replaces
 // row krow by y, 4 removes row krow and column kcol. 11 where n, mode or an index is out of range, 12 where a buffer is too short; then nothing is written.
 #[unsafe(no_mangle)]
@@ -71,7 +61,7 @@ pub extern "C" fn LUmod(
     ensures { UpdateOutcome (ieee binary64) zero_based_epsilon zero_based_tiny mode maxmod n krow kcol
         l.old u.old y.old z.old w.old l.new u.new y.new z.new w.new result }
 {
-    number(update(mode, maxmod, n, krow, kcol, l, u, y, z, w))
+    result_number(update(mode, maxmod, n, krow, kcol, l, u, y, z, w))
 }
 
 // Writes the L product of y to the first n of z: plain in mode 1, transposed in any other.
@@ -79,7 +69,7 @@ pub extern "C" fn LUmod(
 pub extern "C" fn Lprod(mode: i32, maxmod: i32, n: i32, l: &[f64], y: &[f64], z: &mut [f64]) -> u32
     ensures { ProductOutcome (ieee binary64) mode maxmod n l.now y.now z.old z.new result }
 {
-    number(product(mode, maxmod, n, l, y, z))
+    result_number(product(mode, maxmod, n, l, y, z))
 }
 
 // Solves with U on the first n of y: plain in mode 1, transposed in any other. No diagonal is tested.
@@ -87,7 +77,7 @@ pub extern "C" fn Lprod(mode: i32, maxmod: i32, n: i32, l: &[f64], y: &[f64], z:
 pub extern "C" fn Usolve(mode: i32, maxmod: i32, n: i32, u: &[f64], y: &mut [f64]) -> u32
     ensures { SolveOutcome (ieee binary64) mode maxmod n u.now y.old y.new result }
 {
-    number(solve(mode, maxmod, n, u, y))
+    result_number(solve(mode, maxmod, n, u, y))
 }
 
 // What LUmod does.

@@ -14,8 +14,9 @@ ghost use Rattle.managed.specs.StorageAnswers.{ready_under};
 ghost use Rattle.answers.specs.Numbers.{index_after};
 ghost use Rattle.managed_c.specs.Returned.{SolveReturned, LengthsReturned, ReadyReturned};
 
-use answers::{answer_number, named_index};
+use answers::named_index;
 use api::LuMod;
+use host_numbers::result_number;
 use refusals::Refusal;
 
 // The lengths of L and U that a capacity needs.
@@ -28,7 +29,7 @@ pub extern "C" fn lumod_storage_lengths(capacity: usize, l: &mut usize, u: &mut 
         *l = lengths.l;
         *u = lengths.u;
     }
-    answer_number(required.map_err(Refusal::from))
+    result_number(required.map_err(Refusal::from))
 }
 
 // Whether storage can be adopted at a dimension and a capacity.
@@ -37,7 +38,7 @@ pub extern "C" fn lumod_from_storage(n: usize, c: usize, l: &[f64], u: &[f64]) -
     ensures { result ≡ calls.refusal_number (storage_tests n c (length l.now) (length u.now)) }
 {
     let adoption = LuMod::from_storage(n, c, l, u);
-    answer_number(adoption)
+    result_number(adoption)
 }
 
 // Solves in place.
@@ -60,7 +61,7 @@ pub extern "C" fn lumod_solve(
     };
     let result = state.solve_in_place(l, u, rhs);
     *index = named_index(result.answer, *index);
-    answer_number(result.answer)
+    result_number(result.answer)
 }
 
 // Solves with the transpose in place.
@@ -83,7 +84,7 @@ pub extern "C" fn lumod_solve_transpose(
     };
     let result = state.solve_transpose_in_place(l, u, rhs);
     *index = named_index(result.answer, *index);
-    answer_number(result.answer)
+    result_number(result.answer)
 }
 
 // Whether a solve would be carried out.
@@ -101,5 +102,5 @@ pub extern "C" fn lumod_ready(n: usize, c: usize, l: &[f64], u: &[f64], ready: &
     if let Ok(is_ready) = answer {
         *ready = u8::from(is_ready);
     }
-    answer_number(answer)
+    result_number(answer)
 }

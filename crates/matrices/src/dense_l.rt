@@ -22,7 +22,7 @@ impl<'a> DenseL<'a> {
     ghost use Rattle.matrices.specs.Tables.{table_l};
 
     // L(row, column), active or not.
-    pub fn entry(self, row: usize, column: usize) -> f64
+    pub fn get(self, row: usize, column: usize) -> f64
         requires { (row < self.stride) × (column < self.stride) }
         ensures { result ≡ table_l self.entry row column }
     {
@@ -45,7 +45,7 @@ impl<'a> DenseL<'a> {
         ensures { Written (ieee binary64) (λ k. k) (length values.old) (λ i. table_l self.entry i column) values.old values.new }
     {
         for (i, value) in values.iter_mut().enumerate() {
-            *value = self.entry(i, column);
+            *value = self.get(i, column);
         }
     }
 }

@@ -25,7 +25,7 @@ impl<'a> PackedU<'a> {
     ghost use Rattle.matrices.specs.Tables.{table_u};
 
     // U(row, column), row <= column, active or not.
-    pub fn entry(self, row: usize, column: usize) -> f64
+    pub fn get(self, row: usize, column: usize) -> f64
         requires { (row ≤ column) × (column < self.stride) }
         ensures { result ≡ table_u self.entry row column }
     {
@@ -48,7 +48,7 @@ impl<'a> PackedU<'a> {
         ensures { Written (ieee binary64) (λ k. k) (length values.old) (λ i. table_u self.entry i column) values.old values.new }
     {
         for (i, value) in values.iter_mut().enumerate() {
-            *value = self.entry(i, column);
+            *value = self.get(i, column);
         }
     }
 
@@ -59,7 +59,7 @@ impl<'a> PackedU<'a> {
     {
         let mut sum = 0.0;
         for (i, value) in values[..column].iter().enumerate() {
-            sum += self.entry(i, column) * value;
+            sum += self.get(i, column) * value;
         }
         sum
     }

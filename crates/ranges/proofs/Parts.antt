@@ -1,8 +1,9 @@
 -- Parts of slices: the entries of one that is read, and what a slice holds where a part of it was written.
-use Rattle.std.proofs.Common.{◌≡◌, refl, ◌∙◌, ℕ, ◌+◌, ◌-◌, ◌≤◌, ◌<◌, List, ◌++◌, length, take, drop, replicate, arith, rules}
+use Rattle.std.proofs.Common.{◌≡◌, ap, ◌∙◌, ℕ, ◌+◌, ◌-◌, ◌≤◌, ◌<◌, List, ◌++◌, length, take, drop, replicate, arith, rules}
 use Rattle.std.proofs.lemmas.List.{places}
 use borrow.Rule.Slice.PartMut.{put_mid}
 use native.Mathlib.Decide.{dec_lt}
+use native.Mathlib.Numerals.{unary_clauses}
 use Rattle.numbers.specs.NumberForm.{NumberForm}
 use Rattle.machine.specs.Tables.{Vector}
 use Rattle.machine.specs.Products.{entry}
@@ -59,42 +60,31 @@ module _ (N : NumberForm) (start stop count : ℕ) (xs ys : List N.Value) (is_st
       let long : length (part N at end source) ≡ count = omega (arith, part_long N at end source (omega arith) within) in
       part_written N start stop count xs ys is_stop fits (rw e long) (λ j h. rw e (part_entry N at end source j within (omega arith)))
 
--- ---- a part at the front
+-- ---- a part at the front: one that starts at 0
+
+from_zero : (k : ℕ) → 0 + k ≡ k
+from_zero k = omega arith
 
 module _ (N : NumberForm) (n : ℕ) (xs : List N.Value) where
   pub front_length : n ≤ length xs → length (take n xs) ≡ n
-  front_length fits = search (rules, places)
+  front_length fits = simp unary_clauses at (part_long N 0 n xs (omega arith) fits)
 
   pub front_entry : (k : ℕ) → k < n → n ≤ length xs → entry N (take n xs) k ≡ entry N xs k
-  front_entry k h fits = search (rules, places)
+  front_entry k h fits = simp unary_clauses at (part_entry N 0 n xs k fits (simp unary_clauses (omega (arith, front_length fits)))) ∙ ap (entry N xs) (from_zero k)
 
 -- xs where `xs[..n]` became ys
-module _ (N : NumberForm) (n : ℕ) (xs ys : List N.Value) (fits : n ≤ length xs) (long : length ys ≡ n) where
-  front_within : (j : ℕ) → j < n → entry N (ys ++ drop n xs) j ≡ entry N ys j
-  front_within j h = search (rules, places)
-
-  front_behind : (q : ℕ) → n ≤ q → entry N (ys ++ drop n xs) q ≡ entry N xs q
-  front_behind q h = search (rules, places)
-
-  front_long : length (ys ++ drop n xs) ≡ length xs
-  front_long = search (rules, places)
-
-  pub front_written : {f : Vector N.Value} → ((j : ℕ) → j < n → entry N ys j ≡ f j) → Written N (λ k. k) n f xs (ys ++ drop n xs)
-  front_written e = record {
-    value = λ j h. front_within j h ∙ e j h;
-    kept = record {
-      long = front_long;
-      same = λ q free. elim (dec_lt q n) [ yes h ↦ absurd (free (q, h, refl)) | no h ↦ front_behind q (omega arith) ];
-    };
-  }
-
 module _ (N : NumberForm) (n : ℕ) (xs ys : List N.Value) (fits : n ≤ length xs) where
   open N use {Value}
 
+  pub front_written : length ys ≡ n → {f : Vector Value} → ((j : ℕ) → j < n → entry N ys j ≡ f j) → Written N (λ k. k) n f xs (ys ++ drop n xs)
+  front_written long {f} e =
+      let place : from 0 ≡ (λ k. k) = λ i k. from_zero k i in
+      rw place at (simp unary_clauses at (part_written N 0 n n xs ys (omega arith) fits long {f = f} e))
+
   -- what `xs[..n].fill(value)` leaves
   pub front_filled : (value : Value) → ys ≡ replicate (length (take n xs)) value → Written N (λ k. k) n (λ k. value) xs (ys ++ drop n xs)
-  front_filled value e = front_written N n xs ys fits (rw e (search (rules, places))) (λ j h. rw e (search (rules, places)))
+  front_filled value e = front_written (rw e (search (rules, places))) (λ j h. rw e (search (rules, places)))
 
   -- what `copy(&mut xs[..n], &source[..n])` leaves
   pub front_copied : (source : List Value) → n ≤ length source → ys ≡ take n source → Written N (λ k. k) n (entry N source) xs (ys ++ drop n xs)
-  front_copied source within e = front_written N n xs ys fits (rw e (search (rules, places))) (λ j h. rw e (search (rules, places)))
+  front_copied source long e = front_written (rw e (search (rules, places))) (λ j h. rw e (search (rules, places)))

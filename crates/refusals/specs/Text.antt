@@ -1,5 +1,8 @@
 -- What a refusal says in words: one sentence for each number of documents 01 and 02, with its index or place where it has one.
+-- For 9 and 10 it is the sentence of the error that they come from.
 use Rattle.std.specs.Prelude.{List, ◌++◌, ℕ, codes, decimal}
+use Rattle.diagonals.specs.declared.BadDiagonal.TheVariants.{Zero, NonFinite}
+use Rattle.diagonals.specs.Diagonal as diagonal
 use Rattle.refusals.specs.declared.Refusal.{Refusal}
 use Rattle.refusals.specs.declared.Refusal.TheVariants as refusal
 
@@ -15,5 +18,5 @@ text_of refusal.ColumnOutOfBounds = codes "there is no such column"
 text_of refusal.LengthMismatch = codes "lent data are not as long as the dimension"
 text_of (refusal.NonFiniteData i) = codes "the value at place " ++ (decimal i ++ codes " is infinite or NaN")
 text_of refusal.InsufficientWorkspace = codes "the workspaces are too short"
-text_of (refusal.Singular i) = codes "diagonal " ++ (decimal i ++ codes " of U is zero")
-text_of (refusal.NonFiniteDiagonal i) = codes "diagonal " ++ (decimal i ++ codes " of U is infinite or NaN")
+text_of (refusal.Singular i) = diagonal.text_of (Zero i)
+text_of (refusal.NonFiniteDiagonal i) = diagonal.text_of (NonFinite i)

@@ -53,7 +53,7 @@ impl Refusal {
     }
 }
 
-// In words, with its index or place where it has one.
+// In words, with its index or place where it has one: a bad diagonal in those of its own error.
 impl fmt::Display for Refusal {
     ghost output = { λ refused. Some (text_of refused) };
 
@@ -73,8 +73,8 @@ impl fmt::Display for Refusal {
                 "the value at place {place} is infinite or NaN"
             ),
             Refusal::InsufficientWorkspace => f.write_str("the workspaces are too short"),
-            Refusal::Singular(i) => write!(f, "diagonal {i} of U is zero"),
-            Refusal::NonFiniteDiagonal(i) => write!(f, "diagonal {i} of U is infinite or NaN"),
+            Refusal::Singular(i) => write!(f, "{}", BadDiagonal::Zero(*i)),
+            Refusal::NonFiniteDiagonal(i) => write!(f, "{}", BadDiagonal::NonFinite(*i)),
         }
     }
 }

@@ -16,7 +16,6 @@ ghost use Rattle.factors.specs.StepPerformed.{work_with, StepPerformed};
 use backward::{backward, trim};
 use factors::Factors;
 use forward::forward;
-use matrices::packed_u::PackedU;
 use numerics::tolerance::Numerics;
 
 // Restores the triangle after U's column was put in place, w holding what the column is to be: Backward above `last`, and Forward on the row that it leaves.
@@ -66,14 +65,7 @@ pub fn drop_column(
 {
     let last = factors.n - 1;
     if column < last {
-        // Lent whole by &mut first: where a field is lent to be read, a proof knows only its length afterwards.
-        let entries = &mut *factors.u;
-        let u = PackedU {
-            n: factors.n,
-            stride: factors.stride,
-            entries,
-        };
-        u.read_column(last, &mut w[..last + 1]);
+        factors.u().read_column(last, &mut w[..last + 1]);
         factors.write_u_column(column, &w[..column + 1]);
         return restore(column, last, last, factors, y, w, numerics);
     }

@@ -29,6 +29,6 @@ pub fn forward_substitute(u: PackedU<'_>, b: &mut [f64])
 {
     for row in 0..u.n {
         let sum = u.dot_column(row, b);
-        b[row] = (b[row] - sum) / u.entry(row, row);
+        b[row] = (b[row] - sum) / u.get(row, row);
     }
 }

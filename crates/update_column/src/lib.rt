@@ -6,7 +6,6 @@ ghost use Rattle.machine.specs.Calls as calls;
 ghost use Rattle.factors.specs.UpdateCarriedOut.{UpdateCarriedOut};
 
 use factors::Factors;
-use matrices::dense_l::DenseL;
 use numerics::tolerance::Numerics;
 use products::l_product;
 use stages::restore;
@@ -25,14 +24,7 @@ pub fn replace_column(
         factors.old y.old z.now w.old factors.new y.new z.now w.new result }
 {
     let n = factors.n;
-    // Lent whole by &mut first: where a field is lent to be read, a proof knows only its length afterwards.
-    let entries = &mut *factors.l;
-    let l = DenseL {
-        n,
-        stride: factors.stride,
-        entries,
-    };
-    l_product(l, z, w);
+    l_product(factors.l(), z, w);
     factors.write_u_column(column, &w[..column + 1]);
     if column + 1 < n {
         return restore(column, n - 1, n, factors, y, w, numerics);

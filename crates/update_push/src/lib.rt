@@ -30,12 +30,10 @@ pub fn push(
 {
     let n = factors.n;
     let last = n - 1;
-    // Lent whole by &mut first: where a field is lent to be read, a proof knows only its length afterwards.
-    let entries = &mut *factors.l;
     let l = DenseL {
         n: last,
         stride: factors.stride,
-        entries,
+        entries: factors.l().entries,
     };
     l_product(l, z, w);
     factors.clear_l_column(last, last);

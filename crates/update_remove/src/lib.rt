@@ -7,7 +7,6 @@ ghost use Rattle.factors.specs.UpdateCarriedOut.{UpdateCarriedOut};
 
 use backward::backward;
 use factors::Factors;
-use matrices::dense_l::DenseL;
 use numerics::tolerance::Numerics;
 use stages::drop_column;
 
@@ -30,14 +29,7 @@ pub fn remove(
     let column_steps = drop_column(column, factors, y, w, numerics);
     let n = factors.n;
     let last = n - 1;
-    // Lent whole by &mut first: where a field is lent to be read, a proof knows only its length afterwards.
-    let entries = &mut *factors.l;
-    let l = DenseL {
-        n,
-        stride: factors.stride,
-        entries,
-    };
-    l.read_column(row, &mut w[..n]);
+    factors.l().read_column(row, &mut w[..n]);
     factors.copy_l_column(last, row);
     let row_steps = backward(0, last, last, factors, z, w, numerics);
     column_steps + row_steps

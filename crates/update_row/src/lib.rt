@@ -8,7 +8,6 @@ ghost use Rattle.factors.specs.UpdateCarriedOut.{UpdateCarriedOut};
 use backward::{backward, trim};
 use factors::Factors;
 use forward::forward;
-use matrices::dense_l::DenseL;
 use numerics::tolerance::Numerics;
 
 // Replaces a row of the matrix by y. It answers how many pair steps it made.
@@ -25,14 +24,7 @@ pub fn replace_row(
         factors.old y.old z.old w.old factors.new y.new z.new w.new result }
 {
     let n = factors.n;
-    // Lent whole by &mut first: where a field is lent to be read, a proof knows only its length afterwards.
-    let entries = &mut *factors.l;
-    let l = DenseL {
-        n,
-        stride: factors.stride,
-        entries,
-    };
-    l.read_column(row, &mut w[..n]);
+    factors.l().read_column(row, &mut w[..n]);
     factors.clear_l_column(row, n);
     let selected = trim(0, n - 1, w, numerics.epsilon);
     let backward_steps = backward(0, selected, n, factors, z, w, numerics);

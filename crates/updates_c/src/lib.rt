@@ -11,8 +11,9 @@ ghost use Rattle.managed.specs.Instance.{state_value, instance};
 ghost use Rattle.answers.specs.Numbers.{index_after, moved_row_after, moved_column_after};
 ghost use Rattle.answers.specs.Returned.{Returned};
 
-use answers::{answer_number, named_index};
+use answers::named_index;
 use api::{ColumnIndex, LuMod, RowIndex};
+use host_numbers::result_number;
 
 // Appends a row and a column.
 #[unsafe(no_mangle)]
@@ -46,7 +47,7 @@ pub extern "C" fn lumod_push(
     *counter = pushed.state.counter;
     *steps = pushed.steps;
     *index = named_index(pushed.answer, *index);
-    answer_number(pushed.answer)
+    result_number(pushed.answer)
 }
 
 // Replaces a row.
@@ -79,7 +80,7 @@ pub extern "C" fn lumod_replace_row(
     *counter = row_replaced.state.counter;
     *steps = row_replaced.steps;
     *index = named_index(row_replaced.answer, *index);
-    answer_number(row_replaced.answer)
+    result_number(row_replaced.answer)
 }
 
 // Replaces a column.
@@ -112,7 +113,7 @@ pub extern "C" fn lumod_replace_column(
     *counter = column_replaced.state.counter;
     *steps = column_replaced.steps;
     *index = named_index(column_replaced.answer, *index);
-    answer_number(column_replaced.answer)
+    result_number(column_replaced.answer)
 }
 
 // Removes a row and a column.
@@ -148,5 +149,5 @@ pub extern "C" fn lumod_remove(
     *steps = removed.steps;
     *moved_row = answers::moved_row(removed.answer, *moved_row);
     *moved_column = answers::moved_column(removed.answer, *moved_column);
-    answer_number(removed.answer)
+    result_number(removed.answer)
 }

@@ -1,32 +1,20 @@
 -- `backward`: the copy, and then the rows.
 use mathlib.Core.Path.{refl, ◌∙◌}
-use Prim.Native.Nat.{◌+◌, ◌-◌}
+use Prim.Native.Nat.{◌-◌}
 use native.Mathlib.Omega.{arith}
 use lib.Ieee.{binary64}
-use lib.ListN.{length}
 use Rattle.numbers.specs.NumberForm.{NumberForm, ieee}
 use Rattle.machine.specs.Backward.{backward}
 use Rattle.machine.specs.Counts.{backward_count}
 use Rattle.machine.proofs.Choice.{within_from}
 use Rattle.machine.proofs.Backward.{backward_rows_same}
 use Rattle.machine.proofs.Counts.{backward_rows_count_same}
-use Rattle.ranges.proofs.Parts.{part_copied}
-use Rattle.ranges.proofs.RowParts.{part_fits}
 use Rattle.factors.proofs.Steps.{same_here, step_then}
-use Rattle.backward.proofs.Rows.{row_copied}
+use Rattle.backward.proofs.Rows.{row_part, row_copied}
 use Rattle.backward.proofs.backward.Goals as goal
 
 abbrev N : NumberForm
 N = ieee binary64
-
--- the whole of U's active row fits
-pub slice_bounds-copy-end-2 : goal.slice_bounds-copy-end-2
-slice_bounds-copy-end-2 c =
-    let a = c.args in
-    let f = a.factors.now in
-    let d = c.u_index-diagonal in
-    let fits = part_fits f.stride a.selected a.selected (f.n - a.selected) d.result (omega arith) (omega arith) d.ensures.0 (length f.u.now) (omega arith) (omega arith) in
-    omega arith
 
 pub returns : goal.returns
 unfolding backward backward_count
@@ -34,12 +22,10 @@ returns c =
     let a = c.args in
     let f = a.factors.now in
     let p = c.requires in
-    let d = c.u_index-diagonal in
-    let fits = part_fits f.stride a.selected a.selected (a.columns - a.selected) d.result (omega arith) (omega arith) d.ensures.0 (length f.u.now) (omega arith) (omega arith) in
-    let part =
-    part_copied N a.selected a.columns (a.columns - a.selected) a.y.now _ (omega arith) (omega arith) f.u.now d.result (d.result + (a.columns - a.selected)) refl fits
-    c.copy.ensures in
-    let copied = row_copied N f.stride f.n a.columns a.selected d.result f.l.now f.u.now a.y.now a.v.now (omega arith) (omega arith) (omega arith) d.ensures.0 part in record {
+    let u = c.u.ensures in
+    let row = rw (u.dimension, u.stride, u.entries) at c.row.ensures.entries in
+    let part = row_part N a.selected a.columns (f.n - a.selected) _ _ a.y.now _ (omega arith) (omega arith) (omega arith) row c.copy.ensures in
+    let copied = row_copied N f.stride f.n a.columns a.selected f.l.now f.u.now a.y.now a.v.now (omega arith) (omega arith) (omega arith) part in record {
       performed =
           step_then (record { performed = copied; same_storage = same_here refl refl refl refl }) c.backward_rows.ensures.performed (omega arith)
           (λ S R h. within_from (omega arith) (backward_rows_same N a.numerics.epsilon a.numerics.tiny f.n a.columns (omega arith) a.selected (a.selected - a.first) (omega arith) (omega arith) h));

@@ -15,13 +15,13 @@ loop-i-init c = (omega arith, none_searched N _)
 
 pub returns-then-value : goal.returns-then-value
 returns-then-value c =
-    let below : c.loop-i.i < c.args.u.n = omega arith in zero_found N _ _ _ _ c.entry-value.ensures c.loop-i.invariant.1 below c.if-value.true
+    let below : c.loop-i.i < c.args.u.n = omega arith in zero_found N _ _ _ _ c.get-value.ensures c.loop-i.invariant.1 below c.if-value.true
 
 pub returns-then-not-is_finite : goal.returns-then-not-is_finite
 returns-then-not-is_finite c =
     let below : c.loop-i.i < c.args.u.n = omega arith in
-    non_finite_found N _ _ _ _ c.entry-value.ensures c.loop-i.invariant.1 below c.if-value.false (sym c.is_finite.ensures ∙ c.if-not-is_finite.true)
+    non_finite_found N _ _ _ _ c.get-value.ensures c.loop-i.invariant.1 below c.if-value.false (sym c.is_finite.ensures ∙ c.if-not-is_finite.true)
 
 pub loop-i-preserved : goal.loop-i-preserved
 loop-i-preserved c =
-    (omega arith, sound_found N _ c.args.u.n _ _ c.entry-value.ensures c.loop-i.invariant.1 c.if-value.false (sym c.is_finite.ensures ∙ c.if-not-is_finite.false))
+    (omega arith, sound_found N _ c.args.u.n _ _ c.get-value.ensures c.loop-i.invariant.1 c.if-value.false (sym c.is_finite.ensures ∙ c.if-not-is_finite.false))

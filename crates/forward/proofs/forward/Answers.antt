@@ -1,16 +1,14 @@
 -- `forward`: row after row, and then the copy.
 use mathlib.Core.Path.{◌≡◌, refl}
-use Prim.Native.Nat.{◌+◌, ◌-◌}
+use Prim.Native.Nat.{◌-◌}
 use native.Mathlib.Omega.{arith}
 use lib.Ieee.{binary64}
-use lib.ListN.{length}
 use Rattle.numbers.specs.NumberForm.{NumberForm, ieee}
 use Rattle.machine.specs.Forward.{forward_row, forward_rows, forward}
 use Rattle.machine.specs.Counts.{forward_count}
 use Rattle.machine.proofs.Forward.{forward_row_same, copy_dense_same}
-use Rattle.ranges.proofs.Parts.{part_copied}
-use Rattle.ranges.proofs.RowParts.{part_fits}
-use Rattle.factors.proofs.Steps.{same_here, step_none, step_then, step_as}
+use Rattle.factors.proofs.Columns.{written_from_part}
+use Rattle.factors.proofs.Steps.{step_none, step_then, step_as}
 use Rattle.forward.proofs.Rows.{forward_rows_none, forward_rows_more, forward_count_none, forward_count_more, dense_copied}
 use Rattle.forward.proofs.forward.Goals as goal
 
@@ -45,29 +43,19 @@ loop-row-preserved c =
       few = omega (arith, h.few, e.few);
     }
 
-pub slice_bounds-copy-end : goal.slice_bounds-copy-end
-slice_bounds-copy-end c =
-    let a = c.args in
-    let f = c.loop-row.factors in
-    let s = c.loop-row.invariant.performed.same_storage in
-    let d = c.u_index-diagonal in
-    part_fits f.stride a.last a.last (a.columns - a.last) d.result (omega arith) (omega arith) d.ensures.0 _ (omega arith) (omega arith)
-
 pub returns-clause-performed : goal.returns-clause-performed
 unfolding forward
 returns-clause-performed c =
     let a = c.args in
     let f = c.loop-row.factors in
     let h = c.loop-row.invariant in
-    let s = h.performed.same_storage in
-    let d = c.u_index-diagonal in
-    let fits = part_fits f.stride a.last a.last (a.columns - a.last) d.result (omega arith) (omega arith) d.ensures.0 (length f.u.now) (omega arith) (omega arith) in
-    let copied = part_copied N d.result (d.result + (a.columns - a.last)) (a.columns - a.last) f.u.now _ refl fits c.loop-row.y a.last a.columns (omega arith) (omega arith) c.copy.ensures in
+    let put = c.write_u_row.ensures in
+    let row = written_from_part N a.last a.columns c.loop-row.y (omega arith) (omega arith) put.u in
     let e : c.loop-row.row ≡ a.last = omega arith in
-    step_then (rw e at h.performed)
+    step_then {lo₁ = 0} (rw e at h.performed)
     (record {
-      performed = dense_copied N f.stride f.n a.columns a.last d.result _ _ _ (omega arith) (omega arith) (omega arith) d.ensures.0 copied;
-      same_storage = same_here refl refl refl refl;
+      performed = rw put.l (dense_copied N f.stride f.n a.columns a.last _ _ _ _ (omega arith) (omega arith) (omega arith) refl row);
+      same_storage = put.same_storage;
     })
     (omega arith)
     (λ S R. copy_dense_same N a.numerics.epsilon a.numerics.tiny a.factors.now.n a.columns 0 (omega arith) a.last 0 (omega arith))

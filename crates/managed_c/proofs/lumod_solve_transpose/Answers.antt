@@ -1,8 +1,8 @@
 -- `lumod_solve_transpose`: the outcome of the solve, its number, and the index that it names.
 use mathlib.Core.Path.{refl}
 use lib.Ieee.{binary64}
-use Rattle.answers.proofs.Returns.{returned_solved}
+use Rattle.answers.proofs.Returns.{answer_number, returned_solved}
 use Rattle.managed_c.proofs.lumod_solve_transpose.Goals as goal
 
 pub returns : goal.returns
-returns c = returned_solved binary64 c.solve_transpose_in_place-result.ensures c.answer_number.ensures c.named_index.ensures refl
+returns c = returned_solved binary64 c.solve_transpose_in_place-result.ensures (answer_number _ c.result_number.ensures) c.named_index.ensures refl

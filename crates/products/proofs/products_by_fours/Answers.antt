@@ -1,6 +1,6 @@
 -- `products_by_fours`: four entries a turn.
 use mathlib.Core.Path.{◌≡◌}
-use Prim.Native.Nat.{◌+◌, ◌-◌, ◌*◌, ◌%◌}
+use Prim.Native.Nat.{◌+◌, ◌*◌}
 use native.Mathlib.Omega.{arith}
 use lib.Ieee.{binary64}
 use Rattle.numbers.specs.NumberForm.{NumberForm, ieee}
@@ -13,6 +13,3 @@ N = ieee binary64
 pub loop-four-preserved : goal.loop-four-preserved
 loop-four-preserved c =
     let e : 4 * (c.loop-four.four + 1) ≡ 4 * c.loop-four.four + 4 = omega arith in (omega arith, rw e (written_four N (4 * c.loop-four.four) c.loop-four.invariant.1 c.four_products.ensures))
-
-pub returns : goal.returns
-returns c = let e : c.args.l.n - c.args.l.n % 4 ≡ 4 * c.loop-four.four = omega arith in (omega arith, rw e c.loop-four.invariant.1)

@@ -21,14 +21,14 @@ returns-then-column-last c =
     let put = c.write_u_column.ensures in
     let s = put.same_storage in
     let e = c.restore.ensures in
-    let read = column_read N (f.n - 1 + 1) a.w.now _ (omega arith) c.read_column.ensures in
+    let read = column_read N (f.n - 1 + 1) a.w.now _ (omega arith) (rw (c.u.ensures.stride, c.u.ensures.entries) at c.read_column.ensures) in
     let written = written_from N (a.column + 1) _ (omega (arith, read.kept.long)) put.u in
     let performed = rw (s.stride, s.dimension, put.l) at e.performed.performed in
     let counted = rw (s.stride, put.l) at e.counted in
     let r =
     column_dropped_outcome N a.numerics.epsilon a.numerics.tiny f.stride f.n a.column f.l.now f.u.now a.y.now
     a.w.now _ _ (omega arith) (omega arith) read written (performed, counted) in
-    record { updated = r.0; counted = r.1; few = e.few; same_storage = same_storage_then (same_here s.dimension s.stride s.l s.u) e.performed.same_storage }
+    record { updated = r.0; counted = r.1; few = e.few; same_storage = same_storage_then s e.performed.same_storage }
 
 pub returns : goal.returns
 returns c =

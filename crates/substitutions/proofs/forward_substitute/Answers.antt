@@ -16,4 +16,4 @@ loop-row-init c = (omega arith, forward_none N _ _ _)
 pub loop-row-preserved : goal.loop-row-preserved
 loop-row-preserved c =
     let k = c.loop-row.invariant.1.kept.long in
-    (omega arith, forward_more N c.args.u.n c.loop-row.row (table_u c.args.u) c.args.b.now c.loop-row.b (omega arith) (omega arith) c.entry.ensures refl c.loop-row.invariant.1 c.dot_column-sum.ensures)
+    (omega arith, forward_more N c.args.u.n c.loop-row.row (table_u c.args.u) c.args.b.now c.loop-row.b (omega arith) (omega arith) c.get.ensures refl c.loop-row.invariant.1 c.dot_column-sum.ensures)

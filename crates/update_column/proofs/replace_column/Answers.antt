@@ -3,9 +3,8 @@ use Prim.Native.Nat.{◌+◌}
 use native.Mathlib.Omega.{arith}
 use lib.Ieee.{binary64}
 use Rattle.numbers.specs.NumberForm.{NumberForm, ieee}
-use Rattle.factors.specs.SameStorage.{SameStorage}
 use Rattle.factors.proofs.Columns.{written_from}
-use Rattle.factors.proofs.Steps.{same_here, same_storage_then}
+use Rattle.factors.proofs.Steps.{same_storage_then}
 use Rattle.update_column.proofs.ColumnReplaced.{column_outcome, last_column_outcome}
 use Rattle.update_column.proofs.replace_column.Goals as goal
 
@@ -17,13 +16,14 @@ returns-then-column-n c =
     let a = c.args in
     let f = a.factors.now in
     let p = c.requires in
+    let l = c.l.ensures in
+    let product = rw (l.dimension, l.stride, l.entries) at c.l_product.ensures in
     let put = c.write_u_column.ensures in
-    let q = put.same_storage in
-    let s : SameStorage f c.write_u_column.new.self = same_here q.dimension q.stride q.l q.u in
+    let s = put.same_storage in
     let e = c.restore.ensures in record {
       carried_out =
           column_outcome N a.numerics.epsilon a.numerics.tiny f.stride f.n a.column f.l.now f.u.now a.y.now
-          a.z.now a.w.now _ _ (omega arith) (omega arith) c.l_product.ensures (written_from N (a.column + 1) _ (omega arith) put.u) (omega (arith, c.if-column-n.true))
+          a.z.now a.w.now _ _ (omega arith) (omega arith) product (written_from N (a.column + 1) _ (omega arith) put.u) (omega (arith, c.if-column-n.true))
           (rw (s.stride, s.dimension, put.l) at e.performed.performed, rw (s.stride, put.l) at e.counted);
       same_storage = same_storage_then s e.performed.same_storage;
     }
@@ -33,10 +33,11 @@ returns c =
     let a = c.args in
     let f = a.factors.now in
     let p = c.requires in
-    let put = c.write_u_column.ensures in
-    let q = put.same_storage in record {
+    let l = c.l.ensures in
+    let product = rw (l.dimension, l.stride, l.entries) at c.l_product.ensures in
+    let put = c.write_u_column.ensures in record {
       carried_out =
           rw put.l (last_column_outcome N a.numerics.epsilon a.numerics.tiny f.stride f.n a.column f.l.now f.u.now
-          a.y.now a.z.now a.w.now _ _ (omega arith) (omega arith) c.l_product.ensures (written_from N (a.column + 1) _ (omega arith) put.u) (omega arith));
-      same_storage = same_here q.dimension q.stride q.l q.u;
+          a.y.now a.z.now a.w.now _ _ (omega arith) (omega arith) product (written_from N (a.column + 1) _ (omega arith) put.u) (omega arith));
+      same_storage = put.same_storage;
     }

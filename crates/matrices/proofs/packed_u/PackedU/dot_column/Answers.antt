@@ -1,5 +1,4 @@
 -- `PackedU::dot_column`: one term a turn.
-use mathlib.Core.Path.{◌≡◌}
 use native.Mathlib.Omega.{arith}
 use lib.Ieee.{binary64}
 use Rattle.numbers.specs.NumberForm.{NumberForm, ieee}
@@ -16,9 +15,4 @@ loop-i-init c = sum_none N _
 pub loop-i-preserved : goal.loop-i-preserved
 loop-i-preserved c =
     let long = front_length N c.args.column c.args.values.now (omega arith) in
-    rw (c.entry.ensures, front_entry N c.args.column c.args.values.now c.loop-i.i (omega (arith, long)) (omega arith)) (sum_more N _ c.loop-i.invariant)
-
-pub returns : goal.returns
-returns c =
-    let e : c.loop-i.i ≡ c.args.column = omega (arith, front_length N c.args.column c.args.values.now (omega arith)) in
-    rw e at c.loop-i.invariant
+    rw (c.get.ensures, front_entry N c.args.column c.args.values.now c.loop-i.i (omega (arith, long)) (omega arith)) (sum_more N _ c.loop-i.invariant)
