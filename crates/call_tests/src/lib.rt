@@ -1,5 +1,5 @@
 // The tests of the updates and the solves, each in its call's order: first what the call lends, 1, 2, 3, 13 and for an update 14, then its own. A test only
-// reads.
+// reads. They are as many as the calls: what they share, the tests of refusals, is called, and what is left are the calls' own tests in their order.
 #![tactic(auto)]
 
 ghost use Rattle.std.specs.Prelude.{◌≡◌, ◌+◌, length};

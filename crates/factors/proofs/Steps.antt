@@ -1,11 +1,15 @@
 -- Steps on factors, one after the other.
 use mathlib.Core.Path.{◌≡◌, refl, ◌∙◌}
 use mathlib.Core.List.{List}
-use Prim.Native.Nat.{ℕ, ◌≤◌}
+use Prim.Native.Nat.{ℕ, ◌+◌, ◌≤◌, ◌<◌}
+use native.Mathlib.Omega.{arith}
+use lib.ListN.{length}
 use lib.Ieee.{Float, binary64}
 use Rattle.numbers.specs.NumberForm.{NumberForm, ieee}
 use Rattle.machine.specs.Tables.{Work}
 use Rattle.machine.specs.Agreement.{AgreeWithin}
+use Rattle.storage.specs.Places.{u_index}
+use Rattle.ranges.proofs.RowParts.{part_fits}
 use Rattle.buffers.specs.Performed.{Performed}
 use Rattle.buffers.proofs.Buffers.{performed_none, performed_then, performed_as, performed_from}
 use Rattle.factors.specs.declared.Factors.{Factors}
@@ -20,6 +24,10 @@ same_here n c l u = record { dimension = n; stride = c; l = l; u = u }
 
 pub same_storage_then : {a b d : Factors} → SameStorage a b → SameStorage b d → SameStorage a d
 same_storage_then p q = record { dimension = q.dimension ∙ p.dimension; stride = q.stride ∙ p.stride; l = q.l ∙ p.l; u = q.u ∙ p.u }
+
+-- a part of a row of U, from its diagonal on, ends within the buffer
+pub u_part_fits : (a : Factors) (row count : ℕ) {d : ℕ} → row < a.stride → row + count ≤ a.stride → d ≡ u_index a.stride row row → d + count ≤ length a.u.now
+u_part_fits a row count {d} below within is_d = part_fits a.stride row row count d (omega arith) within is_d (length a.u.now) below a.u_long
 
 pub step_none : {a : Factors} {lo hi k : ℕ} {y v : List Float} → StepPerformed lo hi k (λ S. S) a y v a y v
 step_none = record { performed = performed_none N; same_storage = same_here refl refl refl refl }

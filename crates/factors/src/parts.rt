@@ -48,6 +48,7 @@ impl Factors<'_> {
         requires { (column < self.old.stride) × (rows ≤ self.old.stride) }
         ensures { LWritten (λ i. l_index self.old.stride i column) rows (λ i. (ieee binary64).zero) self.old self.new }
     {
+        // By number: the places of a column lie the stride apart.
         for i in 0..rows {
             self.l[l_index(i, column, self.stride)] = 0.0;
         }
@@ -59,6 +60,7 @@ impl Factors<'_> {
         ensures { LWritten (λ i. l_index self.old.stride i target) self.old.n
             (λ i. view_l (ieee binary64) self.old.stride self.old.l.now i source) self.old self.new }
     {
+        // By number, as its two columns lie in one buffer.
         for i in 0..self.n {
             self.l[l_index(i, target, self.stride)] = self.l[l_index(i, source, self.stride)];
         }

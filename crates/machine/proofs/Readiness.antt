@@ -5,7 +5,6 @@ use mathlib.Core.Logic.{⊎_elim, ◌↔◌}
 use mathlib.Core.Option.{Option, none, some}
 use Prim.Native.Nat.{ℕ, zero, suc, ◌+◌, ◌-◌, ◌≤◌, ◌<◌}
 use native.Mathlib.Nat.{eq-or-lt_of_le, le_of_suc-le-suc}
-use native.Mathlib.Numerals.{add-one}
 use native.Mathlib.Omega.{arith}
 use lib.Dec.{T as So}
 use Rattle.numbers.specs.NumberForm.{NumberForm}
@@ -38,15 +37,6 @@ pub same_below : (k : ℕ) (test test' : ℕ → Bool) → ((i : ℕ) → i < k 
 unfolding all_below
 same_below zero test test' h = refl
 same_below (suc k) test test' h = λ t. same_below k test test' (λ i l. h i (omega arith)) t && h k (omega arith) t
-
--- a search upward: no place yet, and one more
-pub none_below : (test : ℕ → Bool) → true ≡ all_below 0 test
-unfolding all_below
-none_below test = refl
-
-pub one_more_below : (k : ℕ) (test : ℕ → Bool) (b x : Bool) → b ≡ all_below k test → x ≡ test k → (b && x) ≡ all_below (k + 1) test
-unfolding all_below
-one_more_below k test b x e f = rw add-one (λ t. e t && f t)
 
 module _ (N : NumberForm) where
   open N use {Value, is_finite}

@@ -1,5 +1,5 @@
 // The two managed solves on a dimension, a capacity and lent slices: each is tested, and then either refused, with nothing written, or carried out.
-// They are two functions: a parameter for the solve would need the contract of a solve, and a function that tests and cuts would return parts of `&mut l`.
+// They are two functions: one over the solve, as a parameter or as a trait, was proved, and took more lines of contracts and of proofs than it saved.
 #![tactic(auto)]
 
 ghost use Rattle.std.specs.Float.{binary64};

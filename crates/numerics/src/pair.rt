@@ -7,7 +7,7 @@ ghost use Rattle.numbers.specs.PairStep.{Stepped, first, second};
 use crate::real::abs;
 use std::mem::swap;
 
-// What a pair step found: whether the two are exchanged, and what multiple of the first is added to the second.
+// What a pair step found: whether the two are exchanged, and what multiple of the first is added to the second. Document 01 has it as a flag and a number.
 #[derive(Clone, Copy, Debug, PartialEq)]
 pub struct Transform {
     pub swap: bool,

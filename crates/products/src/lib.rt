@@ -63,6 +63,7 @@ pub fn l_product(l: DenseL<'_>, input: &[f64], output: &mut [f64])
         output.old output.new }
 {
     let done = products_by_fours(l, input, output);
+    // By number: a row of L and an entry of the output.
     for i in done..l.n {
         output[i] = dot(l.row(i), input);
     }

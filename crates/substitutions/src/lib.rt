@@ -15,6 +15,7 @@ pub fn back_substitute(u: PackedU<'_>, b: &mut [f64])
     requires { u.n ≤ length b.old }
     ensures { Written (ieee binary64) (λ i. i) u.entry.n (back_substituted (ieee binary64) u.entry.stride u.entry.n u.entry.entries.now b.old) b.old b.new }
 {
+    // By number: a row of U, the entries of b behind it and its own, which the rows below have left.
     for row in (0..u.n).rev() {
         let entries = u.row(row);
         let sum = dot(&entries[1..], &b[row + 1..u.n]);
@@ -27,6 +28,7 @@ pub fn forward_substitute(u: PackedU<'_>, b: &mut [f64])
     requires { u.n ≤ length b.old }
     ensures { Written (ieee binary64) (λ i. i) u.entry.n (forward_substituted (ieee binary64) u.entry.stride u.entry.n u.entry.entries.now b.old) b.old b.new }
 {
+    // By number: a column of U, the entries of b before it and its own.
     for row in 0..u.n {
         let sum = u.dot_column(row, b);
         b[row] = (b[row] - sum) / u.get(row, row);

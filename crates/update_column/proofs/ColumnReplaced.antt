@@ -5,7 +5,7 @@ use Prim.Native.Nat.{ℕ, suc, ◌+◌, ◌-◌, ◌≤◌, ◌<◌}
 use native.Mathlib.Omega.{arith}
 use borrow.Author.Tests.{lt-ltb, le-ltb}
 use Rattle.numbers.specs.NumberForm.{NumberForm}
-use Rattle.machine.specs.Products.{entry}
+use Rattle.machine.specs.Products.{entry, product}
 use Rattle.machine.specs.Updates.{put_column, column_product, restored, column_replaced}
 use Rattle.machine.specs.Calls.{replace_column}
 use Rattle.machine.specs.Machine.{accepted}
@@ -20,7 +20,6 @@ use Rattle.storage.specs.Updated.{UpdateFrame, CarriedOut}
 use Rattle.storage.proofs.Kept.{kept_more}
 use Rattle.storage.proofs.Frames.{frame_then, frame_middle, frame_u, frame_w}
 use Rattle.ranges.specs.Written.{Written}
-use Rattle.products.specs.LProducts.{l_product}
 use Rattle.buffers.specs.Performed.{work_of, Performed}
 use Rattle.stages.proofs.StageLaws.{u_column_kept, column_put}
 
@@ -28,7 +27,7 @@ module _ (N : NumberForm) (E T : N.Value) where
   open N use {Value}
 
   module _ (c n k : ℕ) (l u y z w u₁ w₁ : List Value) (hc : n ≤ c) (hk : k < n)
-      (ws : Written N (λ i. i) n (l_product N c n l z) w w₁) (us : Written N (λ i. u_index c i k) (k + 1) (entry N w₁) u u₁) where
+      (ws : Written N (λ i. i) n (product N n (view_l N c l) (entry N z)) w w₁) (us : Written N (λ i. u_index c i k) (k + 1) (entry N w₁) u u₁) where
     column_start : AgreeWithin n n n n (work_of N c l u₁ y w₁) (put_column k (column_product N n (view_l N c l) (view_u N c u) z))
     column_start =
         column_put N c n n n k l u y w₁ hc hk us (record { L = λ i j a b. refl; U = λ i j a b. refl; y = λ j a b. absurd (omega arith); v = λ j h. ws.value j h })

@@ -8,7 +8,7 @@ use lib.ListN.{length, set}
 use lib.Seq.{get_or-set_same, get_or-set_other}
 use Rattle.numbers.specs.NumberForm.{NumberForm}
 use Rattle.machine.specs.Tables.{state_of}
-use Rattle.machine.specs.Products.{entry}
+use Rattle.machine.specs.Products.{entry, product}
 use Rattle.machine.specs.Forward.{forward}
 use Rattle.machine.specs.Updates.{with_unit_row, column_cleared, bordered, pushed}
 use Rattle.machine.specs.Calls.{push}
@@ -22,7 +22,6 @@ use Rattle.storage.specs.Updated.{CarriedOut}
 use Rattle.storage.proofs.Kept.{kept_all, kept_set, kept_then, kept_more}
 use Rattle.storage.proofs.Places.{u_index_injective}
 use Rattle.ranges.specs.Written.{Written}
-use Rattle.products.specs.LProducts.{l_product}
 use Rattle.buffers.specs.Performed.{work_of, Performed}
 use Rattle.factors.specs.LUpdated.{LUpdated}
 use Rattle.stages.proofs.StageLaws.{l_column, l_column_kept, u_column_other, u_column_kept, forward_agrees, forward_counted}
@@ -30,7 +29,7 @@ use Rattle.stages.proofs.StageLaws.{l_column, l_column_kept, u_column_other, u_c
 module _ (N : NumberForm) (E T : N.Value) where
   open N use {Value, zero as 𝟎, absent}
 
-  module _ (c n d : ℕ) (l u y z w w₁ l₁ l₂ u₁ : List Value) (hc : n ≤ c) (hn : 0 < n) (ws : Written N (λ i. i) (n - 1) (l_product N c (n - 1) l z) w w₁)
+  module _ (c n d : ℕ) (l u y z w w₁ l₁ l₂ u₁ : List Value) (hc : n ≤ c) (hn : 0 < n) (ws : Written N (λ i. i) (n - 1) (product N (n - 1) (view_l N c l) (entry N z)) w w₁)
       (cleared : Written N (λ i. l_index c i (n - 1)) (n - 1) (λ i. 𝟎) l l₁) (unit : LUpdated N c n (with_unit_row N (n - 1) (n - 1)) l₁ l₂)
       (us : Written N (λ i. u_index c i (n - 1)) (n - 1) (entry N w₁) u u₁) (is-d : d ≡ u_index c (n - 1) (n - 1)) (fits : d < length u₁) where
     border_u : (i j : ℕ) → i ≤ j → j < n → view_u N c (set u₁ d 𝟎) i j ≡ (bordered N (n - 1) (view_l N c l) (view_u N c u) y z (entry N y (n - 1))).U i j

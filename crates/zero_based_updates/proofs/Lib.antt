@@ -1,2 +1,2 @@
--- Calls is about the machine's call for each mode.
+-- Calls is about the machine's call for each update.
 pub mod Calls

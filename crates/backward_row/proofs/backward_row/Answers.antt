@@ -3,14 +3,13 @@ use mathlib.Core.Path.{refl}
 use Prim.Native.Nat.{◌-◌}
 use native.Mathlib.Omega.{arith}
 use lib.Ieee.{binary64}
-use lib.ListN.{length, length-set}
+use lib.ListN.{length-set}
 use Rattle.numbers.specs.NumberForm.{NumberForm, ieee}
 use Rattle.machine.specs.Backward.{clear_dense, backward_transform}
 use Rattle.machine.proofs.Backward.{backward_transform_same}
-use Rattle.ranges.proofs.RowParts.{part_fits}
 use Rattle.transforms.proofs.Pairs.{parts_transformed}
 use Rattle.buffers.proofs.Buffers.{performed_then, performed_from}
-use Rattle.factors.proofs.Steps.{same_here, step_as, step_from}
+use Rattle.factors.proofs.Steps.{same_here, u_part_fits, step_as, step_from}
 use Rattle.backward_row.proofs.RowEliminated.{dense_cleared, backward_transformed, backward_skips_lem, backward_acts, backward_skips_counted, backward_acts_counted}
 use Rattle.backward_row.proofs.backward_row.Goals as goal
 
@@ -38,7 +37,7 @@ slice_bounds-transform_slices-end-2 c =
     let a = c.args in
     let f = a.factors.now in
     let d = c.u_index-diagonal in
-    part_fits f.stride a.row a.row (a.columns - a.row) d.result (omega arith) (omega arith) d.ensures.0 (length f.u.now) (omega arith) (omega arith)
+    u_part_fits f a.row (a.columns - a.row) (omega arith) (omega arith) d.ensures.0
 
 pub returns : goal.returns
 returns c =
@@ -47,7 +46,7 @@ returns c =
     let p = c.requires in
     let d = c.u_index-diagonal in
     let s = c.elementary-transform in
-    let fits = part_fits f.stride a.row a.row (a.columns - a.row) d.result (omega arith) (omega arith) d.ensures.0 (length f.u.now) (omega arith) (omega arith) in
+    let fits = u_part_fits f a.row (a.columns - a.row) (omega arith) (omega arith) d.ensures.0 in
     let pairs =
     parts_transformed N _ _ a.row _ d.result _ (a.columns - a.row) _ _ (omega arith) (omega arith) (simp length-set (omega arith)) fits
     c.transform_slices.ensures in record {

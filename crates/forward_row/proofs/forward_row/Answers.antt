@@ -2,13 +2,12 @@
 use Prim.Native.Nat.{◌+◌, ◌-◌}
 use native.Mathlib.Omega.{arith}
 use lib.Ieee.{binary64}
-use lib.ListN.{length, length-set}
+use lib.ListN.{length-set}
 use mathlib.Core.Path.{refl}
 use Rattle.numbers.specs.NumberForm.{NumberForm, ieee}
 use Rattle.machine.specs.Forward.{forward_transform}
-use Rattle.ranges.proofs.RowParts.{part_fits}
 use Rattle.transforms.proofs.Pairs.{parts_transformed}
-use Rattle.factors.proofs.Steps.{same_here, step_none, step_as}
+use Rattle.factors.proofs.Steps.{same_here, u_part_fits, step_none, step_as}
 use Rattle.forward_row.proofs.RowEliminated.{forward_transformed, forward_acts_lem, forward_passes, forward_acts_counted, forward_passes_counted}
 use Rattle.forward_row.proofs.forward_row.Goals as goal
 
@@ -20,7 +19,7 @@ slice_bounds-transform_slices-end c =
     let a = c.args in
     let f = a.factors.now in
     let d = c.u_index-diagonal in
-    let h = part_fits f.stride a.row a.row (a.columns - a.row) d.result (omega arith) (omega arith) d.ensures.0 (length f.u.now) (omega arith) (omega arith) in
+    let h = u_part_fits f a.row (a.columns - a.row) (omega arith) (omega arith) d.ensures.0 in
     simp length-set (omega arith)
 
 pub returns-then-acts : goal.returns-then-acts
@@ -30,7 +29,7 @@ returns-then-acts c =
     let p = c.requires in
     let d = c.u_index-diagonal in
     let s = c.elementary-transform in
-    let h = part_fits f.stride a.row a.row (a.columns - a.row) d.result (omega arith) (omega arith) d.ensures.0 (length f.u.now) (omega arith) (omega arith) in
+    let h = u_part_fits f a.row (a.columns - a.row) (omega arith) (omega arith) d.ensures.0 in
     let pairs =
     parts_transformed N _ _ (d.result + 1) _ (a.row + 1) _ (a.columns - (a.row + 1)) _ _ (omega arith) (omega arith)
     (simp length-set (omega arith)) (simp length-set (omega arith)) c.transform_slices.ensures in record {

@@ -1,4 +1,4 @@
--- `managed`: the definition's fraction is rounded, and the literal's bits read.
+-- `managed`: E is the library's constant, and both it and the definition's are told by their bits.
 use lib.Ieee.{of_bits}
 use Rattle.numbers.specs.Tolerances.{managed_epsilon}
 use Rattle.numerics.proofs.tolerance.managed.Goals as goal
