@@ -1,5 +1,5 @@
 // The tests of the updates and the solves, each in its call's order: first what the call lends, 1, 2, 3, 13 and for an update 14, then its own. A test only
-// reads. They are as many as the calls: what they share, the tests of refusals, is called, and what is left are the calls' own tests in their order.
+// reads. Each function is the tests of one call, of both replacements or of both solves; what they share is called, the tests of refusals.
 #![tactic(auto)]
 
 ghost use Rattle.std.specs.Prelude.{◌≡◌, ◌+◌, length};

@@ -7,7 +7,6 @@ ghost use Rattle.machine.specs.Products.{entry};
 ghost use Rattle.machine.specs.Updates.{with_unit_row};
 ghost use Rattle.storage.specs.Places.{l_index, u_index};
 ghost use Rattle.storage.specs.Views.{view_l};
-ghost use Rattle.ranges.specs.Written.{from};
 ghost use Rattle.factors.specs.PartsWritten.{LWritten, LRewritten, UWritten};
 
 use crate::Factors;
@@ -79,7 +78,7 @@ impl Factors<'_> {
     // U(row, row + k) takes values[k], for each of `values`, which end before the dimension or with it.
     pub fn write_u_row(&mut self, row: usize, values: &[f64])
         requires { (row < self.old.n) × (row + length values.now ≤ self.old.n) }
-        ensures { UWritten (from (u_index self.old.stride row row)) (length values.now) (entry (ieee binary64) values.now) self.old self.new }
+        ensures { UWritten (λ k. u_index self.old.stride row (row + k)) (length values.now) (entry (ieee binary64) values.now) self.old self.new }
     {
         let diagonal = u_index(row, row, self.stride);
         copy(&mut self.u[diagonal..diagonal + values.len()], values);

@@ -20,6 +20,7 @@ use Rattle.storage.proofs.Kept.{kept_more}
 use Rattle.storage.proofs.Frames.{frame_u}
 use Rattle.ranges.specs.Written.{from, Written}
 use Rattle.ranges.proofs.RowParts.{part_place, outside_part, part_free, left_out}
+use Rattle.ranges.proofs.Vectors.{written_at}
 use Rattle.buffers.specs.Performed.{work_of, Performed}
 
 module _ (N : NumberForm) where
@@ -56,8 +57,15 @@ module _ (N : NumberForm) where
 
   -- ---- y into U's row
 
-  module _ (c n columns last d : ℕ) (l u y : List Value) {u' : List Value} (hc : n ≤ c) (hk : columns ≤ n) (hl : last ≤ columns) (is-d : d ≡ u_index c last last)
-      (us : Written N (from d) (columns - last) (λ k. entry N y (last + k)) u u') where
+  module _ (c n columns last : ℕ) (l u y : List Value) {u' : List Value} (hc : n ≤ c) (hk : columns ≤ n) (hl : last ≤ columns)
+      (us : Written N (λ k. u_index c last (last + k)) (columns - last) (λ k. entry N y (last + k)) u u') where
+    abbrev d : ℕ
+    d = u_index c last last
+
+    -- the row's places follow each other from its diagonal on
+    from_diagonal : Written N (from d) (columns - last) (λ k. entry N y (last + k)) u u'
+    from_diagonal = written_at N (λ k h. sym (part_place c last last (columns - last) d (omega arith) (omega arith) refl k h)) us
+
     copied_u : (i j : ℕ) → i ≤ j → j < n → view_u N c u' i j ≡ (copy_dense_to_row last columns (work_of N c l u y [])).U i j
     unfolding copy_dense_to_row
     copied_u i j hij hj =
@@ -67,14 +75,13 @@ module _ (N : NumberForm) where
         let f = in_range last columns j (and_r (eqb i last) (leb last j && ltb j columns) s) in
         let back : last + (j - last) ≡ j = omega arith in
         ap (λ (a : ℕ). view_u N c u' a j) e ∙ ap (λ (b : ℕ). view_u N c u' last b) (sym back)
-        ∙ ap (entry N u') (sym (part_place c last last (columns - last) d (omega arith) (omega arith) is-d (j - last) (omega arith)))
         ∙ us.value (j - last) (omega arith) ∙ ap (entry N y) back)
-        (λ s. us.kept.same _ (outside_part c last last (columns - last) d (omega arith) (omega arith) is-d i j hij (omega arith)
+        (λ s. from_diagonal.kept.same _ (outside_part c last last (columns - last) d (omega arith) (omega arith) refl i j hij (omega arith)
         (left_out last columns i j s)))
 
     pub dense_copied : Performed N c n 0 columns 0 (copy_dense_to_row last columns) l u y [] l u' y []
     unfolding copy_dense_to_row
     dense_copied = record {
       agree = record { L = λ i j a b. refl; U = copied_u; y = λ j a b. refl; v = λ j a. refl };
-      frame = frame_u N (kept_more N (part_free c last last (columns - last) d (omega arith) (omega arith) is-d n (omega arith)) us.kept);
+      frame = frame_u N (kept_more N (part_free c last last (columns - last) d (omega arith) (omega arith) refl n (omega arith)) from_diagonal.kept);
     }

@@ -1,4 +1,4 @@
-// The managed calls for a C host that change no factor: lengths, adoption, ready and the solves. The state is a dimension and a capacity, handed over as numbers.
+// The managed calls for a C host that change no factor: lengths, adoption, ready and the solves. The state is handed over as its dimension and its capacity.
 // Each returns its refusal's number, 0 for success. C has no Result and no Option: the number and the out-parameters stand for them.
 #![tactic(auto)]
 

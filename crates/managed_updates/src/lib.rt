@@ -1,5 +1,5 @@
 // The four managed updates on a dimension, a capacity and lent slices: each is tested, and then either refused, with nothing written, or carried out.
-// They differ in their tests, in what they lend on and in the update that they make; one function of these would need the contracts of all three as parameters.
+// They differ in their tests, in what they lend on and in the update that they make: one function over these would ask for a contract of each.
 #![tactic(auto)]
 
 ghost use Rattle.std.specs.Prelude.{◌≡◌, length};

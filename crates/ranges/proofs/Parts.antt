@@ -53,13 +53,6 @@ module _ (N : NumberForm) (start stop count : ℕ) (xs ys : List N.Value) (is_st
   pub part_filled : (value : Value) → ys ≡ replicate (length (part N start stop xs)) value → Written N (from start) count (λ k. value) xs (put_mid start (stop - start) xs ys)
   part_filled value e = part_written N start stop count xs ys is_stop fits (rw e (search (rules, places))) (λ j h. rw e (search (rules, places)))
 
-  -- what `copy(&mut xs[start..stop], &source[at..end])` leaves
-  pub part_copied : (source : List Value) (at end : ℕ) → end ≡ at + count → end ≤ length source → ys ≡ part N at end source
-      → Written N (from start) count (λ k. entry N source (at + k)) xs (put_mid start (stop - start) xs ys)
-  part_copied source at end is_end within e =
-      let long : length (part N at end source) ≡ count = omega (arith, part_long N at end source (omega arith) within) in
-      part_written N start stop count xs ys is_stop fits (rw e long) (λ j h. rw e (part_entry N at end source j within (omega arith)))
-
 -- ---- a part at the front: one that starts at 0
 
 from_zero : (k : ℕ) → 0 + k ≡ k

@@ -11,7 +11,7 @@ use Rattle.numbers.specs.NumberForm.{NumberForm}
 use Rattle.machine.specs.Tables.{Vector, put}
 use Rattle.machine.specs.Products.{entry}
 use Rattle.machine.proofs.Choice.{neqb→ne, pick}
-use Rattle.storage.proofs.Kept.{kept_all, kept_set, kept_then}
+use Rattle.storage.proofs.Kept.{kept_all, kept_set, kept_then, kept_more}
 use Rattle.ranges.specs.Written.{Written}
 
 module _ (N : NumberForm) where
@@ -20,6 +20,13 @@ module _ (N : NumberForm) where
   -- the same values by another name
   pub written_as : {place : ℕ → ℕ} {n : ℕ} (f : Vector Value) {g : Vector Value} {a b : List Value} → ((k : ℕ) → k < n → f k ≡ g k) → Written N place n f a b → Written N place n g a b
   written_as f e h = record { value = λ k l. h.value k l ∙ e k l; kept = h.kept }
+
+  -- the same places by another name
+  pub written_at : {p q : ℕ → ℕ} {n : ℕ} {f : Vector Value} {a b : List Value} → ((k : ℕ) → k < n → p k ≡ q k) → Written N p n f a b → Written N q n f a b
+  written_at {p} {q} {n} {f} {a} {b} e h = record {
+    value = λ k l. ap (entry N b) (sym (e k l)) ∙ h.value k l;
+    kept = kept_more N (λ r w. (w.0, w.1, w.2 ∙ e w.0 w.1)) h.kept;
+  }
 
   -- written over
   pub written_over : {place : ℕ → ℕ} {n : ℕ} {f g : Vector Value} {a b c : List Value} → Written N place n f a b → Written N place n g b c → Written N place n g a c

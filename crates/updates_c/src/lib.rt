@@ -1,6 +1,6 @@
-// The four updates of the managed interface for a C host: the state is a dimension, a capacity and a counter, handed over as numbers. Each returns the number of
-// documents 01 and 02, 0 for success, and writes how many pair steps it made, 0 where it is refused. Those that lend data name the place of an infinity or NaN.
-// C has no Result and no Option: the number and the out-parameters stand for them.
+// The four updates of the managed interface for a C host: the state is a dimension, a capacity and a counter, handed over as numbers. Each returns the number
+// of documents 01 and 02, 0 for success, and writes how many pair steps it made, 0 where it is refused. Those that lend data name the place of an infinity or
+// NaN. C has no Result and no Option: the number and the out-parameters stand for them.
 // What an update writes at its end stands in each: a function for it would have, with what it says of each out-parameter, more lines than it takes away.
 #![tactic(auto)]
 

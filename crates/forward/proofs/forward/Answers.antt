@@ -1,5 +1,5 @@
 -- `forward`: row after row, and then the copy.
-use mathlib.Core.Path.{◌≡◌, refl}
+use mathlib.Core.Path.{◌≡◌}
 use Prim.Native.Nat.{◌-◌}
 use native.Mathlib.Omega.{arith}
 use lib.Ieee.{binary64}
@@ -54,7 +54,7 @@ returns-clause-performed c =
     let e : c.loop-row.row ≡ a.last = omega arith in
     step_then {lo₁ = 0} (rw e at h.performed)
     (record {
-      performed = rw put.l (dense_copied N f.stride f.n a.columns a.last _ _ _ _ (omega arith) (omega arith) (omega arith) refl row);
+      performed = rw put.l (dense_copied N f.stride f.n a.columns a.last _ _ _ (omega arith) (omega arith) (omega arith) row);
       same_storage = put.same_storage;
     })
     (omega arith)
