@@ -107,4 +107,13 @@ impl<'a> Factors<'a> for Storage<'a> {
             )
         }
     }
+
+    fn ready(&mut self, _: &mut [f64]) -> bool {
+        let Self { n, capacity, l, u, .. } = self;
+        let mut ready = 0;
+        let number = unsafe {
+            lumod_ready(*n, *capacity, l.as_ptr(), l.len(), u.as_ptr(), u.len(), &mut ready)
+        };
+        number == 0 && ready == 1
+    }
 }

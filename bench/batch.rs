@@ -2,8 +2,8 @@
 
 use crate::inputs::{Call, Inputs};
 
-/// Each update has storage of its own, each solve a right-hand side of its own on one storage.
-/// The copies lie one after another, and the workspaces are for all.
+/// Each update has storage of its own, each other call a right-hand side of its own on one
+/// storage. The copies lie one after another, and the workspaces are for all.
 pub struct Batch {
     pub l: Vec<f64>,
     pub u: Vec<f64>,
@@ -13,15 +13,15 @@ pub struct Batch {
 
 impl Batch {
     pub fn new(inputs: &Inputs, call: Call, calls: usize) -> Self {
-        let (updates, solves) = if call.is_solve() {
-            (1, calls)
-        } else {
+        let (storages, vectors) = if call.is_update() {
             (calls, 0)
+        } else {
+            (1, calls)
         };
         Self {
-            l: inputs.l.repeat(updates),
-            u: inputs.u.repeat(updates),
-            rhs: inputs.rhs.repeat(solves),
+            l: inputs.l.repeat(storages),
+            u: inputs.u.repeat(storages),
+            rhs: inputs.rhs.repeat(vectors),
             workspaces: [(); 3].map(|()| vec![0.0; inputs.n + 1]),
         }
     }

@@ -3,12 +3,13 @@
 use crate::batch::Batch;
 use crate::inputs::{Call, Case, Inputs, CALLS};
 use crate::measure::NAMES;
-use crate::sides::{push_all, run, First, Second};
+use crate::sides::{push_all, run, Factors, First, Second};
 
 /// The error says where the first difference is.
 pub fn check_all(all: &[Inputs]) -> Result<(), String> {
     for inputs in all {
         check_pushes(inputs).map_err(|what| format!("pushes up to n = {}, {what}", inputs.n))?;
+        check_not_ready(inputs)?;
         for call in CALLS {
             for case in inputs.cases(call) {
                 check_case(inputs, &case)
@@ -23,7 +24,29 @@ pub fn check_all(all: &[Inputs]) -> Result<(), String> {
 fn check_pushes(inputs: &Inputs) -> Result<(), String> {
     let [first, mut second] = [(); 2].map(|()| Batch::new(inputs, Call::Push, 1));
     push_all::<Second>(inputs, &mut second);
-    compare(inputs, inputs.n, &first, &second)
+    compare_factors(inputs, inputs.n, &first, &second)
+}
+
+/// The archive's ready must be no with an infinity in L(0,n-1) or U(0,n-1), which are both at
+/// place n - 1: one that looks at less is faster.
+fn check_not_ready(inputs: &Inputs) -> Result<(), String> {
+    let n = inputs.n;
+    for name in ["L", "U"] {
+        let mut batch = Batch::new(inputs, Call::Ready, 1);
+        let factor = if name == "L" {
+            &mut batch.l
+        } else {
+            &mut batch.u
+        };
+        factor[n - 1] = f64::INFINITY;
+        let mut factors = Second::adopt(n, inputs.capacity, &mut batch.l, &mut batch.u);
+        if factors.ready(&mut batch.rhs) {
+            let side = NAMES[1];
+            let what = format!("ready at n = {n}, {side}: yes with an infinity in {name}");
+            return Err(what);
+        }
+    }
+    Ok(())
 }
 
 fn check_case(inputs: &Inputs, case: &Case) -> Result<(), String> {
@@ -35,18 +58,23 @@ fn check_case(inputs: &Inputs, case: &Case) -> Result<(), String> {
         Call::Remove => inputs.n - 1,
         _ => inputs.n,
     };
-    compare(inputs, after, &first, &second)
+    compare_factors(inputs, after, &first, &second)?;
+    match case.call {
+        // The Rust solves zeros in its place, and the archive is lent no vector.
+        Call::Ready => Ok(()),
+        _ => compare_slices("the solved vector", &first.rhs, &second.rhs),
+    }
 }
 
-/// The active entries at dimension m, and the right-hand sides.
-fn compare(inputs: &Inputs, m: usize, first: &Batch, second: &Batch) -> Result<(), String> {
+/// The active entries at dimension m.
+fn compare_factors(inputs: &Inputs, m: usize, first: &Batch, second: &Batch) -> Result<(), String> {
     for row in inputs.l_rows(m) {
         compare_slices("L", &first.l[row.clone()], &second.l[row])?;
     }
     for row in inputs.u_rows(m) {
         compare_slices("U", &first.u[row.clone()], &second.u[row])?;
     }
-    compare_slices("the solved vector", &first.rhs, &second.rhs)
+    Ok(())
 }
 
 fn compare_slices(name: &str, first: &[f64], second: &[f64]) -> Result<(), String> {

@@ -16,15 +16,17 @@ pub enum Call {
     Remove,
     Solve,
     SolveTranspose,
+    Ready,
 }
 
-pub const CALLS: [Call; 6] = [
+pub const CALLS: [Call; 7] = [
     Call::Push,
     Call::ReplaceRow,
     Call::ReplaceColumn,
     Call::Remove,
     Call::Solve,
     Call::SolveTranspose,
+    Call::Ready,
 ];
 
 impl Call {
@@ -36,11 +38,12 @@ impl Call {
             Call::Remove => "remove",
             Call::Solve => "solve",
             Call::SolveTranspose => "transpose solve",
+            Call::Ready => "ready",
         }
     }
 
-    pub fn is_solve(self) -> bool {
-        matches!(self, Call::Solve | Call::SolveTranspose)
+    pub fn is_update(self) -> bool {
+        !matches!(self, Call::Solve | Call::SolveTranspose | Call::Ready)
     }
 }
 

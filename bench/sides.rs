@@ -27,6 +27,8 @@ pub trait Factors<'a>: Sized {
     fn remove(&mut self, case: &Case, workspace: &mut Self::Workspace) -> bool;
     fn solve(&mut self, rhs: &mut [f64]) -> bool;
     fn solve_transpose(&mut self, rhs: &mut [f64]) -> bool;
+    /// Whether the factors are ready. The right-hand side is for a side that has no such call.
+    fn ready(&mut self, rhs: &mut [f64]) -> bool;
 }
 
 impl<'a> Factors<'a> for LuMod<'a, f64> {
@@ -70,6 +72,13 @@ impl<'a> Factors<'a> for LuMod<'a, f64> {
     fn solve_transpose(&mut self, rhs: &mut [f64]) -> bool {
         self.solve_transpose_in_place(rhs).is_ok()
     }
+
+    /// A solve of zeros gives zeros exactly where the factors are ready: a zero times an infinity
+    /// or a NaN is a NaN.
+    fn ready(&mut self, rhs: &mut [f64]) -> bool {
+        rhs.fill(0.0);
+        self.solve_in_place(rhs).is_ok() && rhs.iter().all(|&value| value == 0.0)
+    }
 }
 
 /// Makes the pushes of the matrix on the first storage of the batch.
@@ -98,6 +107,7 @@ pub fn run<'a, F: Factors<'a>>(inputs: &Inputs, case: &Case, batch: &'a mut Batc
         Call::Remove => time(&mut factors, |f| f.remove(case, &mut workspace)),
         Call::Solve => time(rhs, |rhs| factors[0].solve(rhs)),
         Call::SolveTranspose => time(rhs, |rhs| factors[0].solve_transpose(rhs)),
+        Call::Ready => time(rhs, |rhs| factors[0].ready(rhs)),
     }
 }
 

@@ -292,7 +292,8 @@ uint32_t lumod_remove(size_t *n, size_t c, double *l, size_t l_len, double *u,
  * row + 1 upward. Every sum starts at +0.
  *
  * Needs: factors of dimension n with no zero, infinity or NaN among the
- * U(i,i), i < n; rhs exactly n long. The solve work needs no content.
+ * U(i,i), i < n; rhs exactly n long. The solve work needs no content. Whether
+ * the other active entries are finite is not tested: lumod_ready tells it.
  *
  * Returns:
  *     LUMOD_OK                   The solution is in rhs.
@@ -326,17 +327,29 @@ uint32_t lumod_solve_transpose(size_t n, size_t c, double *l, size_t l_len,
                                size_t rhs_len, size_t *index);
 
 /*
- * lumod_ready tells whether U's diagonal allows a solve.
+ * lumod_ready tells whether U's diagonal allows a solve and all active entries
+ * are finite.
  *
- * Needs: factors of dimension n.
+ * Needs: factors of dimension n. Only their active entries are looked at.
  *
  * Returns:
  *     LUMOD_OK  The answer is in *ready.
  *     the storage tests
  *
  * Leaves, with LUMOD_OK:
- *     *ready  1 where no U(i,i), i < n, is zero, infinite or NaN, else 0.
+ *     *ready  1 where no U(i,i), i < n, is zero and every L(i,j), i < n and
+ *             j < n, and every U(i,j), i <= j < n, is finite, else 0. At
+ *             dimension 0 it is 1.
  *     l, u    Unchanged.
+ *
+ * The Rust has no such call, and no other call depends on it. A solve tests
+ * U's diagonal alone: with an infinity or a NaN elsewhere the factors are not
+ * ready, and a solve is carried out all the same. On factors that are ready,
+ * either solve of a finite b can still overflow:
+ *
+ *     n = 1  L(0,0) = 1 and U(0,0) = 2^-1074: b = (1) gives (infinity).
+ *     n = 2  L the identity, U(0,0) = 1, U(0,1) = 0 and U(1,1) = 2^-1074:
+ *            b = (1,1) gives (NaN,infinity).
  */
 uint32_t lumod_ready(size_t n, size_t c, const double *l, size_t l_len,
                      const double *u, size_t u_len, uint8_t *ready);

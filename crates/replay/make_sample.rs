@@ -1,6 +1,6 @@
 //! Writes the sample that the program `replay` reads: lists of managed calls with the answers of
-//! the published Rust, or with 23 where the data of an update are refused. README.md has the form.
-//! The seed is fixed, so the bytes are always the same.
+//! the published Rust, with 23 where the data of an update are refused, and with whether factors
+//! are ready. README.md has the form. The seed is fixed, so the bytes are always the same.
 
 #![allow(dead_code)]
 
@@ -9,12 +9,14 @@ mod data;
 #[path = "../../tests/differential/random.rs"]
 mod random;
 
-use data::{near, unused_value, Profile, MANAGED};
+use data::{make_finite, near, unused_value, Profile, MANAGED};
 use random::Random;
 use rlumod::api::{ColumnIndex, LuMod, RowIndex, SolveError, StorageError, UpdateError, Workspace};
 
 const SEED: u64 = 55;
 const LISTS: usize = 420;
+/// How many lists about ready follow them.
+const READY_LISTS: usize = 60;
 const FIRST_WORD: &[u8; 8] = b"LUMOD 1\n";
 const LARGEST_CAPACITY: usize = 15;
 const NOTHING: usize = usize::MAX;
@@ -99,9 +101,12 @@ fn main() {
         bytes: FIRST_WORD.to_vec(),
         answers: [0; 24],
     };
-    sample.size(LISTS);
+    sample.size(LISTS + READY_LISTS);
     for list in 0..LISTS {
         add_list(list, &mut sample, &mut random);
+    }
+    for _ in 0..READY_LISTS {
+        add_ready_list(&mut sample, &mut random);
     }
     let words = sample.bytes.chunks(8);
     let sum = words.fold(0u64, |sum, word| {
@@ -193,11 +198,16 @@ impl Instance {
         &self.u[u_start(self.c, i)..][..self.n - i]
     }
 
-    /// Anything at all in the storage, then factors at dimension n that need not be those of any matrix.
-    fn new(n: usize, c: usize, profile: Profile, random: &mut Random) -> Self {
+    /// Anything at all in the storage.
+    fn unused(n: usize, c: usize, random: &mut Random) -> Self {
         let mut any = || (0..256).map(|_| unused_value(random)).collect::<Vec<_>>();
         let (l, u, work) = (any(), any(), [any(), any(), any()]);
-        let mut instance = Self { n, c, l, u, work };
+        Self { n, c, l, u, work }
+    }
+
+    /// Factors at dimension n that need not be those of any matrix.
+    fn new(n: usize, c: usize, profile: Profile, random: &mut Random) -> Self {
+        let mut instance = Self::unused(n, c, random);
         let sparse = random.chance(1, 2);
         for i in 0..n {
             for j in 0..n {
@@ -219,6 +229,38 @@ impl Instance {
         instance
     }
 
+    /// Factors that are ready, but for up to two entries.
+    fn nearly_ready(n: usize, c: usize, random: &mut Random) -> Self {
+        let mut instance = Self::unused(n, c, random);
+        for i in 0..n {
+            let mut values = vec![f64::NAN; 2 * n - i];
+            make_finite(&mut values, random);
+            if values[n] == 0.0 {
+                values[n] = 1.0;
+            }
+            instance.l[i * c..][..n].copy_from_slice(&values[..n]);
+            instance.u[u_start(c, i)..][..n - i].copy_from_slice(&values[n..]);
+        }
+        for _ in 0..random.below(3) {
+            instance.put_odd(random);
+        }
+        instance
+    }
+
+    /// An active entry, in the first and the last rows and columns more often, becomes infinite,
+    /// NaN or zero.
+    fn put_odd(&mut self, random: &mut Random) {
+        const VALUES: [f64; 5] = [f64::NAN, f64::INFINITY, f64::NEG_INFINITY, 0.0, -0.0];
+        let (i, j) = (random.index(self.n), random.index(self.n));
+        let (row, column) = (i.min(j), i.max(j));
+        let entry = if random.chance(1, 2) {
+            &mut self.l[i * self.c + j]
+        } else {
+            &mut self.u[u_start(self.c, row) + column - row]
+        };
+        *entry = random.pick(&VALUES);
+    }
+
     /// The active entries of row i of L and U.
     fn row(&mut self, i: usize) -> Vec<&mut f64> {
         let &mut Self { n, c, .. } = self;
@@ -226,9 +268,17 @@ impl Instance {
         l.chain(&mut self.u[u_start(c, i)..][..n - i]).collect()
     }
 
+    /// The active entries, row by row.
+    fn active(&self) -> impl Iterator<Item = f64> + '_ {
+        (0..self.n).flat_map(|i| [self.l_row(i), self.u_row(i)].concat())
+    }
+
     fn active_bits(&self) -> Vec<u64> {
-        let rows = (0..self.n).flat_map(|i| [self.l_row(i), self.u_row(i)].concat());
-        rows.map(f64::to_bits).collect()
+        self.active().map(f64::to_bits).collect()
+    }
+
+    fn is_finite(&self) -> bool {
+        self.active().all(f64::is_finite)
     }
 }
 
@@ -268,21 +318,47 @@ fn add_list(list: usize, sample: &mut Sample, random: &mut Random) {
     let n = random.pick(&[0, 0, 0, any, largest, largest]);
     let mut profile = Profile::choose(random);
     let mut instance = Instance::new(n, c, profile, random);
-    let calls = random.between(6, 12) as usize;
-    for size in [calls, c, n] {
-        sample.size(size);
-    }
-    sample.factors(&instance);
-    for _ in 0..calls {
+    for _ in 0..start_list(&instance, sample, random) {
         profile = profile.or_other(random);
-        let call = next_call(&instance, largest, profile, random);
+        let function = choose_function(instance.n, largest, random);
+        let call = next_call(&instance, function, profile, random);
         add_call(&call, &mut instance, sample);
     }
 }
 
+/// A list whose first call is ready, and then every second one.
+fn add_ready_list(sample: &mut Sample, random: &mut Random) {
+    let n = random.between(1, 5) as usize;
+    let c = n + random.pick(&[0, 0, 1, 2]);
+    let mut profile = Profile::choose(random);
+    let mut instance = Instance::nearly_ready(n, c, random);
+    for number in 0..start_list(&instance, sample, random) {
+        profile = profile.or_other(random);
+        let any = choose_function(instance.n, c, random);
+        let function = if number % 2 == 0 { Ready } else { any };
+        let call = next_call(&instance, function, profile, random);
+        add_call(&call, &mut instance, sample);
+    }
+}
+
+/// Writes what a list starts with and answers its number of calls.
+fn start_list(instance: &Instance, sample: &mut Sample, random: &mut Random) -> usize {
+    let calls = random.between(6, 12) as usize;
+    for size in [calls, instance.c, instance.n] {
+        sample.size(size);
+    }
+    sample.factors(instance);
+    calls
+}
+
 /// A call with or without reasons to be refused; one with infinities or NaNs has others more often.
-fn next_call(instance: &Instance, largest: usize, profile: Profile, random: &mut Random) -> Call {
-    let mut call = sound_call(instance, largest, profile, random);
+fn next_call(
+    instance: &Instance,
+    function: Function,
+    profile: Profile,
+    random: &mut Random,
+) -> Call {
+    let mut call = sound_call(instance, function, profile, random);
     let non_finite = random.chance(1, 8);
     if non_finite {
         put_non_finite(call.numbers(), random);
@@ -319,9 +395,13 @@ fn choose_function(n: usize, largest: usize, random: &mut Random) -> Function {
 
 /// A call that is refused only for what it is made on: at the capacity, at dimension 0, or for the
 /// diagonal.
-fn sound_call(instance: &Instance, largest: usize, profile: Profile, random: &mut Random) -> Call {
+fn sound_call(
+    instance: &Instance,
+    function: Function,
+    profile: Profile,
+    random: &mut Random,
+) -> Call {
     let &Instance { n, c, .. } = instance;
-    let function = choose_function(n, largest, random);
     let surplus = random.pick(&[0, 0, 1, 3]);
     let work = if function.is_update() {
         n + 1 + surplus
@@ -521,7 +601,7 @@ fn attempt(
         SolveTranspose => factors.solve_transpose_in_place(first),
         Ready => {
             let solved = factors.solve_in_place(&mut vec![0.0; call.dimension]);
-            answer.index = usize::from(solved.is_ok());
+            answer.index = usize::from(solved.is_ok() && instance.is_finite());
             Ok(())
         }
         _ => Ok(()),

@@ -19,7 +19,7 @@ void begin_group(const char *name) {
 }
 
 void end_group(void) {
-    printf("%-54s %7ld checks, %ld failed\n", group, checks - checks_before,
+    printf("%-54s %8ld checks, %ld failed\n", group, checks - checks_before,
            failures - failures_before);
 }
 
@@ -88,7 +88,7 @@ void mark_all(struct memory *m) {
 void number_all(struct memory *m) {
     for (int b = 0; b < BUFFERS; b++) {
         for (int place = 0; place < CELLS; place++) {
-            m->cells[b][place] = 64 * b + place + 0.25;
+            m->cells[b][place] = CELLS * b + place + 0.25;
         }
     }
 }
@@ -118,12 +118,21 @@ static void check_cell(const char *what, int buffer, int place, const double *fo
     }
 }
 
+/* Equal buffers are compared at once, as most are equal. */
+static void check_buffer(const char *what, int buffer, const double *found,
+                         const double *expected) {
+    if (memcmp(found, expected, CELLS * sizeof *found) == 0) {
+        checks += CELLS;
+        return;
+    }
+    for (int place = 0; place < CELLS; place++) {
+        check_cell(what, buffer, place - BESIDE, &found[place], &expected[place]);
+    }
+}
+
 void check_memory(const char *what, const struct memory *found, const struct memory *expected) {
     for (int b = 0; b < BUFFERS; b++) {
-        for (int place = 0; place < CELLS; place++) {
-            check_cell(what, b, place - BESIDE, &found->cells[b][place],
-                       &expected->cells[b][place]);
-        }
+        check_buffer(what, b, found->cells[b], expected->cells[b]);
     }
 }
 

@@ -11,7 +11,7 @@
 
 #define COUNT(table) (sizeof(table) / sizeof *(table))
 
-enum { BESIDE = 4, ROOM = 192, CELLS = BESIDE + ROOM + BESIDE };
+enum { BESIDE = 4, ROOM = 312, CELLS = BESIDE + ROOM + BESIDE };
 /* ROW, COLUMN and RHS are lent to managed calls alone. */
 enum { L, U, Y, Z, W, ROW, COLUMN, RHS, BUFFERS };
 

@@ -1,8 +1,8 @@
 /*
  * Tests of the managed calls from C: the bench table, known results, what a
  * removal moves, any diagonal, empty factors, adopted storage, every refusal,
- * data that are not finite, pair steps and their counter, and a matrix that is
- * kept beside its factors.
+ * data that are not finite, factors that are not, pair steps and their counter,
+ * and a matrix that is kept beside its factors.
  * The last line counts the checks. The exit status is 1 where one failed.
  */
 #include <math.h>
@@ -14,6 +14,7 @@
 #include "managed_counter.h"
 #include "managed_data.h"
 #include "managed_kept_matrix.h"
+#include "managed_ready.h"
 #include "managed_refusals.h"
 
 /* Buffers just as long as is needed, and longer ones. */
@@ -205,12 +206,6 @@ static void put_diagonal(struct memory *m, const struct managed *c, const size_t
     }
 }
 
-static void check_ready(struct managed c, struct memory *m, uint8_t ready) {
-    struct managed after = c;
-    after.ready = ready;
-    check_kept("ready", c, m, LUMOD_OK, after);
-}
-
 static void check_diagonal(size_t n, const size_t *choice) {
     struct memory m;
     size_t first = 0;
@@ -240,7 +235,7 @@ static void check_off_diagonal(int function, const double *solution) {
     *l_at(&m, 4, 0, 0) = INFINITY;
     *u_at(&m, 4, 0, 1) = NAN;
     if (function == READY) {
-        check_ready(c, &m, 1);
+        check_ready(c, &m, 0);
     } else {
         check_managed_solve("infinity and NaN beside the diagonal", c, &m, solution);
     }
@@ -387,6 +382,38 @@ static void bare_refusals(void) {
     end_group();
 }
 
+/* The same for ready, where the active entries alone are filled. */
+
+static void fill_active(double *l, double *u, size_t n, size_t c) {
+    for (size_t k = 0; k < n * n; k++) {
+        size_t i = k / n, j = k % n;
+        l[i * c + j] = 1;
+        if (i <= j) {
+            u[i * c - i * (i - 1) / 2 + j - i] = 1;
+        }
+    }
+}
+
+static void check_bare_ready(size_t n, size_t c) {
+    size_t l_length = c * (c + 1), u_length = c * (c + 1) / 2;
+    double *l = block(l_length), *u = block(u_length);
+    uint8_t ready;
+    fill_active(l, u, n, c);
+    check_number("ready", lumod_ready(n, c, l, l_length, u, u_length, &ready), LUMOD_OK);
+    check_number("it is ready", ready, 1);
+    free(l), free(u);
+}
+
+static void bare_ready(void) {
+    begin_group("heap blocks that were never filled: ready");
+    for (size_t c = 1; c <= 6; c++) {
+        for (size_t n = 0; n <= c; n++) {
+            check_bare_ready(n, c);
+        }
+    }
+    end_group();
+}
+
 int main(void) {
     /* E is 2^-52. */
     static const struct family managed = {0x1p-52, check_known_update, check_non_finite_update,
@@ -401,9 +428,11 @@ int main(void) {
     adoption();
     bare_blocks();
     bare_refusals();
+    bare_ready();
     check_kept_matrix();
     check_counter();
     check_data();
+    check_readiness();
     check_managed_refusals();
     return end_checks();
 }

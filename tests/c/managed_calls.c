@@ -1,6 +1,7 @@
 #include "managed_calls.h"
 
 #include <stdio.h>
+#include <string.h>
 
 const char *const function_names[FUNCTIONS] = {
     [PUSH] = "push",
@@ -17,6 +18,7 @@ struct managed make_managed(int function, size_t n, size_t c) {
     struct managed call = {.function = function, .n = n, .c = c};
     call.index = call.moved_row = call.moved_column = call.steps = UNREPORTED;
     call.ready = (uint8_t)UNREPORTED;
+    memset(call.beside_ready, call.ready, sizeof call.beside_ready);
     return call;
 }
 
@@ -134,6 +136,8 @@ static void check_numbers(const char *what, uint32_t returned, const struct mana
     for (size_t k = 0; k < COUNT(numbers); k++) {
         check_named(what, numbers[k].name, numbers[k].found, numbers[k].expected);
     }
+    check_named(what, "bytes beside *ready were written",
+                memcmp(c->beside_ready, after->beside_ready, sizeof c->beside_ready) != 0, 0);
 }
 
 void check_kept(const char *what, struct managed c, struct memory *m, uint32_t number,
@@ -157,6 +161,12 @@ void check_non_finite(const char *what, struct managed c, struct memory *m, size
     struct managed after = c;
     after.index = place;
     check_kept(what, c, m, LUMOD_NON_FINITE_DATA, after);
+}
+
+void check_ready(struct managed c, struct memory *m, uint8_t ready) {
+    struct managed after = c;
+    after.ready = ready;
+    check_kept("ready", c, m, LUMOD_OK, after);
 }
 
 /* The limit of an update's pair steps. */

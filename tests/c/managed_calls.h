@@ -21,6 +21,7 @@ struct managed {
     double diagonal;
     size_t index, moved_row, moved_column, counter, steps;
     uint8_t ready;
+    uint8_t beside_ready[7];
 };
 
 /* What a number that a call reports holds before the call. */
@@ -52,6 +53,8 @@ void check_kept(const char *what, struct managed c, struct memory *m, uint32_t n
                 struct managed after);
 /* The same for an update that is lent a value which is not finite, first at the place. */
 void check_non_finite(const char *what, struct managed c, struct memory *m, size_t place);
+/* A call of ready that is carried out and answers so. */
+void check_ready(struct managed c, struct memory *m, uint8_t ready);
 /* Stands for every number of pair steps up to the call's limit. */
 #define ANY_STEPS SIZE_MAX
 /* An accepted update that makes so many pair steps, and leaves the factors l and

@@ -1,39 +1,9 @@
 #include "managed_data.h"
 
 #include <math.h>
-#include <string.h>
 
 #include "managed_calls.h"
-
-static const uint64_t non_finite[] = {
-    UINT64_C(0x7ff0000000000000), /* infinities */
-    UINT64_C(0xfff0000000000000),
-    UINT64_C(0x7ff8000000000000), /* quiet NaNs */
-    UINT64_C(0xfff8000000000000),
-    UINT64_C(0x7fffffffffffffff),
-    UINT64_C(0xffffffffffffffff),
-    UINT64_C(0x7ff0000000000001), /* signalling NaNs */
-    UINT64_C(0xfff0000000000001),
-    UINT64_C(0x7ff0000100000000),
-    UINT64_C(0xfff7ffffffffffff),
-};
-
-static const uint64_t finite[] = {
-    UINT64_C(0x0000000000000000), /* zeros */
-    UINT64_C(0x8000000000000000),
-    UINT64_C(0x0000000000000001), /* subnormals */
-    UINT64_C(0x8000000000000001),
-    UINT64_C(0x000fffffffffffff),
-    UINT64_C(0x800fffffffffffff),
-    UINT64_C(0x0010000000000000), /* the least normal doubles */
-    UINT64_C(0x8010000000000000),
-    UINT64_C(0x7fe0000000000000), /* the largest powers of two */
-    UINT64_C(0xffe0000000000000),
-    UINT64_C(0x7fefffffffffffff), /* the largest finite doubles */
-    UINT64_C(0xffefffffffffffff),
-};
-
-static void put_bits(double *to, uint64_t bits) { memcpy(to, &bits, sizeof bits); }
+#include "managed_doubles.h"
 
 /* Finite data, and a capacity of one more than n. The row or column that is replaced
  * or removed is k, counted round. */
@@ -83,10 +53,10 @@ static void check_accepted(struct managed c, struct memory *m) {
 static void every_place(int function, size_t n) {
     struct memory m;
     struct managed c = make_managed(function, n, n + 1);
-    for (size_t k = 0; k < COUNT(non_finite) * lent_values(&c); k++) {
-        size_t place = k / COUNT(non_finite);
+    for (size_t k = 0; k < COUNT(non_finite_bits) * lent_values(&c); k++) {
+        size_t place = k / COUNT(non_finite_bits);
         c = prepare_finite(&m, function, n, k);
-        put_bits(lent_at(&c, &m, place), non_finite[k % COUNT(non_finite)]);
+        put_bits(lent_at(&c, &m, place), non_finite_bits[k % COUNT(non_finite_bits)]);
         check_non_finite(function_names[function], c, &m, place);
     }
 }
@@ -127,9 +97,9 @@ static void nans_from_a_place_on(int function, size_t n) {
 static void every_finite_value(int function, size_t n) {
     struct memory m;
     struct managed c = make_managed(function, n, n + 1);
-    for (size_t k = 0; k < COUNT(finite) * lent_values(&c); k++) {
+    for (size_t k = 0; k < COUNT(finite_bits) * lent_values(&c); k++) {
         c = prepare_finite(&m, function, n, k);
-        put_bits(lent_at(&c, &m, k / COUNT(finite)), finite[k % COUNT(finite)]);
+        put_bits(lent_at(&c, &m, k / COUNT(finite_bits)), finite_bits[k % COUNT(finite_bits)]);
         check_accepted(c, &m);
     }
 }
@@ -139,13 +109,13 @@ static void check_alike(int function, size_t n, size_t k) {
     struct memory m;
     struct managed c = prepare_finite(&m, function, n, k);
     for (size_t place = 0; place < lent_values(&c); place++) {
-        put_bits(lent_at(&c, &m, place), finite[k]);
+        put_bits(lent_at(&c, &m, place), finite_bits[k]);
     }
     check_accepted(c, &m);
 }
 
 static void finite_values_alike(int function, size_t n) {
-    for (size_t k = 0; k < COUNT(finite); k++) {
+    for (size_t k = 0; k < COUNT(finite_bits); k++) {
         check_alike(function, n, k);
     }
 }
@@ -197,12 +167,12 @@ static void check_removals(void) {
 
 static void elsewhere(void) {
     begin_group("infinities and NaNs in factors and right-hand sides");
-    for (size_t k = 0; k < COUNT(non_finite); k++) {
+    for (size_t k = 0; k < COUNT(non_finite_bits); k++) {
         for (int function = PUSH; function <= SOLVE_TRANSPOSE; function++) {
-            check_factor_entries(function, non_finite[k]);
+            check_factor_entries(function, non_finite_bits[k]);
         }
-        check_right_hand_sides(SOLVE, non_finite[k]);
-        check_right_hand_sides(SOLVE_TRANSPOSE, non_finite[k]);
+        check_right_hand_sides(SOLVE, non_finite_bits[k]);
+        check_right_hand_sides(SOLVE_TRANSPOSE, non_finite_bits[k]);
     }
     check_removals();
     end_group();

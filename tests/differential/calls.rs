@@ -17,6 +17,8 @@ pub struct Calls {
     pub made: u64,
     wanted: u64,
     seed: u64,
+    /// No fewer calls are asked for to make one of them again.
+    least: u64,
 }
 
 impl Calls {
@@ -25,6 +27,15 @@ impl Calls {
             made: 0,
             wanted,
             seed,
+            least: 0,
+        }
+    }
+
+    /// For calls before the lists of a run of so many: the number decides which calls they are.
+    pub fn of_run(self, calls: u64) -> Self {
+        Self {
+            least: calls,
+            ..self
         }
     }
 
@@ -40,7 +51,8 @@ impl Calls {
     /// Prints what differs, and all that is needed to make the call again.
     pub fn report(&self, what: &str, call: &dyn Display, lent: &[Name], before: &Buffers) -> End {
         println!("difference at call {}: {what}", self.made);
-        println!("replay: tests/differential/run {} {}", self.made, self.seed);
+        let calls = self.made.max(self.least);
+        println!("replay: tests/differential/run {calls} {}", self.seed);
         println!("{call}");
         for &name in lent {
             let buffer = &before[name];

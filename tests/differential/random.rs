@@ -9,6 +9,11 @@ impl Random {
         Self { state: seed }
     }
 
+    /// Another generator, which leaves this one as it is.
+    pub fn apart(&self) -> Self {
+        Self::new(!self.state)
+    }
+
     pub fn bits(&mut self) -> u64 {
         self.state = self.state.wrapping_add(0x9e37_79b9_7f4a_7c15);
         let mut x = self.state;

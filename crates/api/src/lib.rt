@@ -4,13 +4,11 @@
 ghost use Rattle.std.specs.Prelude.{◌≡◌, length};
 ghost use Rattle.std.specs.Float.{binary64};
 ghost use Rattle.numbers.specs.NumberForm.{ieee};
-ghost use Rattle.machine.specs.Solves.{diagonals};
 ghost use Rattle.machine.specs.Calls as calls;
-ghost use Rattle.storage.specs.Views.{view_u};
 ghost use Rattle.storage.specs.Lengths as lengths;
 ghost use Rattle.managed.specs.Instance.{instance, lent_to_solve};
 ghost use Rattle.managed.specs.Refusals.{storage_tests};
-ghost use Rattle.managed.specs.StorageAnswers.{adopted_under, ready_under};
+ghost use Rattle.managed.specs.StorageAnswers.{adopted_under, ready_answer};
 ghost use Rattle.managed.specs.Demands.{ManagedOutcome};
 ghost use Rattle.managed_updates.specs.Attempted as updates;
 ghost use Rattle.readiness.specs.Readiness.{readiness_of};
@@ -164,10 +162,10 @@ impl LuMod {
         self.capacity
     }
 
-    // Whether no active diagonal of U is zero, infinite or NaN. Nothing is written.
+    // Whether the factors are ready: no active diagonal of U is zero, infinite or NaN, and every active entry of L and U is finite. Nothing is written. It does
+    // not promise that a solve stays finite: one on ready factors can still overflow.
     pub fn ready(self, l: &[f64], u: &[f64]) -> Result<bool, Refusal>
-        ensures { readiness_of result ≡ ready_under (storage_tests self.n self.capacity (length l.now) (length u.now))
-            (diagonals (ieee binary64) (view_u (ieee binary64) self.capacity u.now) self.n) }
+        ensures { readiness_of result ≡ ready_answer (ieee binary64) self.n self.capacity l.now u.now }
     {
         ready(self.n, self.capacity, l, u)
     }

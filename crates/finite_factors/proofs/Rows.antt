@@ -1,12 +1,13 @@
--- A test of all rows, made one row after another.
+-- Tests of all places: one after another, in two parts, and row by row.
 use mathlib.Core.Path.{◌≡◌, refl, sym, ap, ◌∙◌}
 use mathlib.Core.Bool.{Bool, ◌&&◌, and-true, and_assoc}
 use mathlib.Core.List.{List, [], ◌∷◌}
-use Prim.Native.Nat.{ℕ, zero, suc, ◌+◌}
-use native.Mathlib.Nat.{zero-add}
+use Prim.Native.Nat.{ℕ, zero, suc, ◌+◌, ◌≤◌}
+use native.Mathlib.Nat.{zero-add, add-zero, add-suc}
 use native.Mathlib.Omega.{arith}
-use lib.ListN.{length}
-use Rattle.std.specs.List.{fold, list_all, range_with_len}
+use lib.ListN.{length, drop, length-drop}
+use Rattle.std.proofs.Common.{get_or-drop}
+use Rattle.std.specs.List.{list_all, range_with_len}
 use Rattle.numbers.specs.NumberForm.{NumberForm}
 use Rattle.machine.specs.Tables.{Table, tabulate}
 use Rattle.machine.specs.Products.{entry}
@@ -29,6 +30,13 @@ all_from (suc n) start test =
     let others = all_from n (start + 1) test ∙ same_below n _ _ (λ i h. let e : start + 1 + i ≡ start + suc i = omega arith in ap test e) in
     (λ t. test (here t) && others t) ∙ sym (first_below n (λ i. test (start + i)))
 
+-- the places below n, and m more
+pub all_below_both : (n m : ℕ) (test : ℕ → Bool) → all_below (n + m) test ≡ (all_below n test && all_below m (λ j. test (n + j)))
+unfolding all_below
+all_below_both n zero test = ap (λ (k : ℕ). all_below k test) (add-zero n) ∙ sym (and-true (all_below n test))
+all_below_both n (suc m) test =
+    ap (λ (k : ℕ). all_below k test) (add-suc n m) ∙ (λ t. all_below_both n m test t && test (n + m)) ∙ and_assoc (all_below n test) _ _
+
 module _ (N : NumberForm) where
   open N use {Value, is_finite}
 
@@ -36,12 +44,21 @@ module _ (N : NumberForm) where
   abbrev pub finite_list : List Value → Bool
   finite_list xs = all_below (length xs) (λ k. is_finite (entry N xs k))
 
+  -- the entries below n, and the others
+  pub finite_parts : (n : ℕ) (xs : List Value) → n ≤ length xs → finite_list xs ≡ (all_below n (λ k. is_finite (entry N xs k)) && finite_list (drop n xs))
+  finite_parts n xs h =
+      let test : ℕ → Bool = λ k. is_finite (entry N xs k) in
+      let others = length (drop n xs) in
+      let long : length xs ≡ n + others = omega (arith, length-drop n xs) in
+      ap (λ (k : ℕ). all_below k test) long
+      ∙ all_below_both n others test
+      ∙ λ t. all_below n test && same_below others _ _ (λ j l. ap is_finite (sym (get_or-drop n xs j N.absent))) t
+
   -- the test of one entry after another
-  pub folded_finite : (xs : List Value) (all : Bool) → fold (λ b x. b && is_finite x) all xs ≡ (all && finite_list xs)
+  pub each_finite : (xs : List Value) → list_all is_finite xs ≡ finite_list xs
   unfolding all_below
-  folded_finite [] all = sym (and-true all)
-  folded_finite (x ∷ xs) all =
-      folded_finite xs (all && is_finite x) ∙ and_assoc all _ _ ∙ (λ t. all && sym (first_below (length xs) (λ k. is_finite (entry N (x ∷ xs) k))) t)
+  each_finite [] = refl
+  each_finite (x ∷ xs) = (λ t. is_finite x && each_finite xs t) ∙ sym (first_below (length xs) (λ k. is_finite (entry N (x ∷ xs) k)))
 
   -- n rows, of which row i has width i entries
   pub finite_rows : (n : ℕ) (width : ℕ → ℕ) (T : Table Value) → list_all (λ i. finite_list (tabulate (width i) (T i))) (range_with_len 0 n)

@@ -1,34 +1,30 @@
 -- `is_ready` is what `Ready` says by entries, in both directions, and reads nothing but active entries.
-use mathlib.Core.Path.{◌≡◌, refl, sym, ap, ◌∙◌, subst}
+use mathlib.Core.Path.{◌≡◌, refl, ap, ◌∙◌, subst}
 use mathlib.Core.Bool.{Bool, true, ◌&&◌, and-eq-true_iff}
 use mathlib.Core.Logic.{⊎_elim, ◌↔◌}
-use mathlib.Core.Option.{Option, none, some}
 use Prim.Native.Nat.{ℕ, zero, suc, ◌+◌, ◌-◌, ◌≤◌, ◌<◌}
 use native.Mathlib.Nat.{eq-or-lt_of_le, le_of_suc-le-suc}
 use native.Mathlib.Omega.{arith}
-use lib.Dec.{T as So}
 use Rattle.numbers.specs.NumberForm.{NumberForm}
 use Rattle.machine.specs.Tables.{Table, State}
 use Rattle.machine.specs.Solves.{diagonals}
+use Rattle.machine.specs.Calls.{is_none}
 use Rattle.machine.specs.Agreement.{Agree}
-use Rattle.machine.specs.Readiness.{is_none, all_below, Ready, finite_l, finite_u, is_ready}
+use Rattle.machine.specs.Readiness.{all_below, Ready, finite_l, finite_u, is_ready}
 use Rattle.machine.proofs.Diagonals.{all_sound, none_if_sound}
+use Rattle.machine.proofs.Refusals.{none_if_passed}
 use Rattle.machine.proofs.Solves.{diagonals_same}
-
-pub none_if_passed : {A : Type 0} (x : Option A) → is_none x ≡ true → x ≡ none
-none_if_passed none e = refl
-none_if_passed (some a) e = absurd (subst So (sym e) tt)
 
 -- ---- a test of all places below k
 
-pub holds_below : (k : ℕ) (test : ℕ → Bool) → all_below k test ≡ true → (i : ℕ) → i < k → test i ≡ true
+holds_below : (k : ℕ) (test : ℕ → Bool) → all_below k test ≡ true → (i : ℕ) → i < k → test i ≡ true
 unfolding all_below
 holds_below zero test e i h = absurd (omega arith)
 holds_below (suc k) test e i h =
     let b = (and-eq-true_iff (all_below k test) (test k)).0 e in
     ⊎_elim (λ p. ap test p ∙ b.1) (holds_below k test b.0 i) (eq-or-lt_of_le (le_of_suc-le-suc h))
 
-pub true_below : (k : ℕ) (test : ℕ → Bool) → ((i : ℕ) → i < k → test i ≡ true) → all_below k test ≡ true
+true_below : (k : ℕ) (test : ℕ → Bool) → ((i : ℕ) → i < k → test i ≡ true) → all_below k test ≡ true
 unfolding all_below
 true_below zero test h = refl
 true_below (suc k) test h = λ t. true_below k test (λ i l. h i (omega arith)) t && h k (omega arith) t
@@ -43,7 +39,7 @@ module _ (N : NumberForm) where
 
   -- ---- from the entries to what is computed, and back
 
-  pub ready_if : (S : State Value) → Ready N S → is_ready N S ≡ true
+  ready_if : (S : State Value) → Ready N S → is_ready N S ≡ true
   unfolding is_ready
   ready_if S r =
       let d = none_if_sound N S.U S.n r.diagonal in
@@ -51,7 +47,7 @@ module _ (N : NumberForm) where
       let u = true_below S.n _ (λ i hi. true_below (S.n - i) _ (λ k hk. r.U i (i + k) (omega arith) (omega arith))) in
       λ t. is_none (d t) && (l t && u t)
 
-  pub ready_only_if : (S : State Value) → is_ready N S ≡ true → Ready N S
+  ready_only_if : (S : State Value) → is_ready N S ≡ true → Ready N S
   unfolding is_ready
   ready_only_if S e =
       let d = (and-eq-true_iff (is_none (diagonals N S.U S.n)) _).0 e in

@@ -7,7 +7,7 @@ use native.Mathlib.Omega.{arith}
 use lib.Dec.{T as So, leb, eqb, eqb→eq, nleb→lt}
 use Rattle.numbers.specs.NumberForm.{NumberForm}
 use Rattle.machine.specs.Tables.{State}
-use Rattle.machine.specs.Calls.{Call, Answer, refused, ◌or_else◌, refuse_if}
+use Rattle.machine.specs.Calls.{Call, Answer, refused, ◌or_else◌, is_none, refuse_if}
 use Rattle.machine.specs.LentData.{data_test}
 use Rattle.machine.specs.Machine.{index_tests, refusal}
 use Rattle.machine.proofs.Choice.{both_equal}
@@ -54,10 +54,10 @@ unfolding refusal
 refusal_passed N S c e = or_else_none (index_tests N S c) (data_test N c) e
 
 -- a call is not both refused and accepted
-is_none : {A : Type 0} → Option A → Bool
-is_none none = true
-is_none (some a) = false
-
 pub none_is_some : {A : Type 0} {x : Option A} {r : A} → x ≡ none → x ≡ some r → ⊥
-unfolding is_none
 none_is_some e f = subst So (ap is_none (sym e ∙ f)) tt
+
+-- what passed was refused nothing
+pub none_if_passed : {A : Type 0} (x : Option A) → is_none x ≡ true → x ≡ none
+none_if_passed none e = refl
+none_if_passed (some a) e = absurd (subst So (sym e) tt)

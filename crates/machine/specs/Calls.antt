@@ -38,6 +38,11 @@ abbrev pub ◌or_else◌ : Option Answer → Option Answer → Option Answer
 none or_else b = b
 some a or_else b = some a
 
+-- whether nothing was refused
+abbrev pub is_none : {A : Type 0} → Option A → Bool
+is_none none = true
+is_none (some a) = false
+
 -- the number of what was or was not refused
 abbrev pub refusal_number : Option Answer → ℕ
 refusal_number none = 0

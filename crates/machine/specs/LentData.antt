@@ -3,7 +3,7 @@ use Rattle.std.specs.Prelude.{◌≡◌, refl, true, false, cond, List, [], ◌�
 use Rattle.std.proofs.Math.Option.{Option, none, some}
 use Rattle.std.specs.Float.{nan, inf, binary64}
 use Rattle.std.specs.Float.Ieee.{neg, of_bits}
-use Rattle.numbers.specs.NumberForm.{NumberForm, nearest, ieee, whole}
+use Rattle.numbers.specs.NumberForm.{NumberForm, nearest, ieee, whole, largest, least}
 use Rattle.machine.specs.Calls.{Call, push, replace_row, replace_column, remove, solve, solve_transpose, Answer, refused_at}
 
 -- Places are counted from 0 through the row, then the column, then the diagonal that the call lends. Remove lends none, and a right-hand side goes into no model.
@@ -31,13 +31,6 @@ module _ (N : NumberForm) where
 found : Call Float → Option Answer
 found = data_test (ieee binary64)
 
--- the largest double and the least above zero, which are finite
-largest : Float
-largest = of_bits binary64 0x7FEF_FFFF_FFFF_FFFF
-
-least : Float
-least = of_bits binary64 1
-
 two : Float → Float → List Float
 two a b = a ∷ b ∷ []
 
@@ -60,7 +53,7 @@ pub record FirstPlace : Type 0 where
   right_hand_side_transposed : found (solve_transpose (two nan nan)) ≡ none
 
 pub first_place : FirstPlace
-unfolding found first_non_finite largest least two nearest neg of_bits
+unfolding found first_non_finite two nearest neg of_bits
 first_place = record {
   finite = refl;
   row_place = refl;

@@ -1,19 +1,14 @@
 -- Ready, document 02 (d): no diagonal is refused and every active entry of L and U is finite. It is said by entries (`Ready`) and computed (`is_ready`);
 -- proofs/Readiness.antt shows that the two are the same. Below stand computed lines.
 use Rattle.std.specs.Prelude.{◌≡◌, refl, Bool, true, false, ◌&&◌, List, [], ◌∷◌, ℕ, zero, suc, ◌+◌, ◌-◌, ◌≤◌, ◌<◌, get_or, Float}
-use Rattle.std.proofs.Math.Option.{Option, none, some}
+use Rattle.std.proofs.Math.Option.{none}
 use Rattle.std.specs.Float.{nan, inf, binary64}
 use Rattle.std.specs.Float.Ieee.{neg, eq, of_bits}
-use Rattle.numbers.specs.NumberForm.{NumberForm, nearest, ieee, whole}
+use Rattle.numbers.specs.NumberForm.{NumberForm, nearest, ieee, whole, largest, least}
 use Rattle.machine.specs.Tables.{Table, State}
 use Rattle.machine.specs.Solves.{bad_diagonal, diagonals}
-use Rattle.machine.specs.Calls.{done, solve}
+use Rattle.machine.specs.Calls.{is_none, done, solve}
 use Rattle.machine.specs.BenchStates.{call}
-
--- whether nothing was refused
-abbrev pub is_none : {A : Type 0} → Option A → Bool
-is_none none = true
-is_none (some a) = false
 
 -- a test that holds at every place below k
 unfoldable pub all_below : ℕ → (ℕ → Bool) → Bool
@@ -40,13 +35,6 @@ module _ (N : NumberForm) where
   is_ready S = is_none (diagonals N S.U S.n) && (finite_l S.n S.L && finite_u S.n S.U)
 
 -- ---- which factors are ready, computed
-
--- the largest double and the least above zero
-abbrev largest : Float
-largest = of_bits binary64 0x7FEF_FFFF_FFFF_FFFF
-
-abbrev least : Float
-least = of_bits binary64 1
 
 -- entries row by row; o stands wherever there are none
 rows : Float → List (List Float) → Table Float

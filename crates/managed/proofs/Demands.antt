@@ -15,11 +15,11 @@ use Rattle.machine.specs.Calls.{Answer, ◌or_else◌}
 use Rattle.machine.specs.LentData.{first_non_finite}
 use Rattle.machine.specs.Machine.{rhs_test, index_tests}
 use Rattle.machine.proofs.Diagonals.{all_sound, none_if_sound, first_bad}
-use Rattle.machine.proofs.Refusals.{or_else_last, none_is_some}
+use Rattle.machine.proofs.Refusals.{or_else_last}
 use Rattle.storage.specs.Views.{view_u}
 use Rattle.managed.specs.Instance.{state_value}
 use Rattle.managed.specs.Refusals.{storage_tests, refusal_at}
-use Rattle.managed.specs.StorageAnswers.{AdoptionAnswer, adopted, not_adopted, adopted_under, ReadyAnswer, answered, not_answered, ready_under}
+use Rattle.managed.specs.StorageAnswers.{AdoptionAnswer, adopted, not_adopted, adopted_under}
 use Rattle.managed.specs.Demands.{RefusedByDiagonal, Demand1, Counting, Demand3, StorageDemand1}
 use Rattle.managed.proofs.StorageTests.{storage_passes}
 use Rattle.managed.proofs.Refusals.{storage_passed}
@@ -65,15 +65,11 @@ module _ (F : Format) where
   pub demand_3 : Demand3 F
   demand_3 = list_claim (ieee F) (managed_epsilon F) (managed_tiny F)
 
--- ---- lengths, adoption and ready
+-- ---- lengths and adoption
 
 is_adopted : AdoptionAnswer → Bool
 is_adopted (adopted v) = true
 is_adopted (not_adopted a) = false
-
-is_yes : ReadyAnswer → Bool
-is_yes (answered b) = b
-is_yes (not_answered a) = false
 
 -- what is adopted was refused nothing
 none_if_adopted : (o : Option Answer) (n c : ℕ) → adopted_under o n c ≡ adopted (state_value n c 0) → o ≡ none
@@ -81,19 +77,8 @@ unfolding is_adopted
 none_if_adopted none n c e = refl
 none_if_adopted (some a) n c e = absurd (subst So (ap is_adopted (sym e)) tt)
 
-none_if_ready : (o d : Option Answer) → ready_under o d ≡ answered true → (o ≡ none) × (d ≡ none)
-unfolding is_yes
-none_if_ready none none e = (refl, refl)
-none_if_ready none (some a) e = absurd (subst So (ap is_yes (sym e)) tt)
-none_if_ready (some a) d e = absurd (subst So (ap is_yes (sym e)) tt)
-
--- what is refused nothing and is no yes is a no
-no_if_bad : (d : Option Answer) → (d ≡ none → ⊥) → ready_under none d ≡ answered false
-no_if_bad none h = absurd (h refl)
-no_if_bad (some a) h = refl
-
-pub storage_demand_1 : (N : NumberForm) → StorageDemand1 N
-storage_demand_1 N = record {
+pub storage_demand_1 : StorageDemand1
+storage_demand_1 = record {
   lengths_given = λ c e. rw e refl;
   lengths_refused = λ c e. rw e refl;
   adopted_if = λ n c l u hn hc hl hu. ap (λ (o : Option Answer). adopted_under o n c) (sym (storage_passes n c l u hn hc hl hu));
@@ -101,10 +86,4 @@ storage_demand_1 N = record {
       let p = storage_passed n c l u (none_if_adopted (storage_tests n c l u) n c e) in
       (p.dimension, p.size, p.L, p.U);
   if_not_adopted = λ n c l u a e. (ap (λ (o : Option Answer). adopted_under o n c) e, storage_numbered n c l u a e);
-  ready_refused = λ n c l u U a e. (ap (λ (o : Option Answer). ready_under o (diagonals N U n)) e, storage_numbered n c l u a e);
-  ready_if = λ n c l u U e h. rw (e, none_if_sound N U n h) refl;
-  ready_only_if = λ n c l u U e.
-      let p = none_if_ready (storage_tests n c l u) (diagonals N U n) e in
-      (p.0, all_sound N U n p.1);
-  not_ready = λ n c l u U i a e h bad. rw e (no_if_bad (diagonals N U n) (λ none-bad. none_is_some (all_sound N U n none-bad i h) bad));
 }

@@ -12,4 +12,5 @@ pub mod Satisfiable
 pub mod Demands
 pub mod WhichBuffer
 pub mod FiniteData
+pub mod ReadyFactors
 pub mod WholeTable

@@ -6,7 +6,7 @@ use Rattle.std.specs.Float.{Format}
 use Rattle.numbers.specs.NumberForm.{NumberForm, ieee}
 use Rattle.numbers.specs.Tolerances.{managed_epsilon, managed_tiny}
 use Rattle.machine.specs.Tables.{Table}
-use Rattle.machine.specs.Solves.{bad_diagonal, diagonals}
+use Rattle.machine.specs.Solves.{bad_diagonal}
 use Rattle.machine.specs.Calls.{Call, solve, solve_transpose, Answer, number_of, given}
 use Rattle.machine.specs.Machine.{accepted}
 use Rattle.machine.specs.Counts.{accepted_count, count_limit, count_most}
@@ -17,7 +17,7 @@ use Rattle.storage.specs.Lengths as storage
 use Rattle.storage.specs.Views.{view_u}
 use Rattle.managed.specs.Instance.{StateValue, state_value, Instance, lent_to_solve, view}
 use Rattle.managed.specs.Refusals.{storage_tests, refusal_at}
-use Rattle.managed.specs.StorageAnswers.{adopted, not_adopted, adopted_under, answered, not_answered, ready_under}
+use Rattle.managed.specs.StorageAnswers.{adopted, not_adopted, adopted_under}
 use Rattle.managed.specs.Outcome.{Report, result_of, Outcome}
 use Rattle.managed.specs.Lists.{Event, Setting, Claim}
 
@@ -78,9 +78,10 @@ module _ (F : Format) where
       → Setting (ieee F) (managed_epsilon F) (managed_tiny F) cs S S₁ S₂ capacity₁ capacity₂ es₁ es₂
       → Claim (ieee F) (managed_epsilon F) (managed_tiny F) cs S es₁ es₂
 
--- ---- demand 1 for lengths, adoption and ready, whose contracts say that they answer `required_lengths`, `adopted_under` and `ready_under`; they write nothing
+-- ---- demand 1 for lengths and adoption, whose contracts say that they answer `required_lengths` and `adopted_under`; they write nothing. For ready it is in
+-- ReadyFactors.antt.
 
-pub record StorageDemand1 (N : NumberForm) : Type 0 where
+pub record StorageDemand1 : Type 0 where
   -- the lengths are given exactly when the sizes fit usize, and refused with 2 otherwise
   pub lengths_given : (c : ℕ) → overflows c ≡ false → storage.required_lengths c ≡ storage.lengths (l_length c) (u_length c)
   pub lengths_refused : (c : ℕ) → overflows c ≡ true → storage.required_lengths c ≡ storage.refused 2
@@ -89,13 +90,3 @@ pub record StorageDemand1 (N : NumberForm) : Type 0 where
   pub adopted_only_if : (n c l u : ℕ) → adopted_under (storage_tests n c l u) n c ≡ adopted (state_value n c 0) → (n ≤ c) × (overflows c ≡ false) × (l_length c ≤ l) × (u_length c ≤ u)
   -- and otherwise gets the refusal that is the first to hold, a number above 0
   pub if_not_adopted : (n c l u : ℕ) (a : Answer) → storage_tests n c l u ≡ some a → (adopted_under (storage_tests n c l u) n c ≡ not_adopted a) × (0 < number_of a)
-  -- ready answers the refusal of the storage, which is the first to hold, a number above 0
-  pub ready_refused : (n c l u : ℕ) (U : Table N.Value) (a : Answer) → storage_tests n c l u ≡ some a
-      → (ready_under (storage_tests n c l u) (diagonals N U n) ≡ not_answered a) × (0 < number_of a)
-  -- and otherwise yes or no, yes exactly when no active diagonal is zero, infinite or NaN
-  pub ready_if : (n c l u : ℕ) (U : Table N.Value) → storage_tests n c l u ≡ none → ((i : ℕ) → i < n → bad_diagonal N (U i i) i ≡ none)
-      → ready_under (storage_tests n c l u) (diagonals N U n) ≡ answered true
-  pub ready_only_if : (n c l u : ℕ) (U : Table N.Value) → ready_under (storage_tests n c l u) (diagonals N U n) ≡ answered true
-      → (storage_tests n c l u ≡ none) × ((i : ℕ) → i < n → bad_diagonal N (U i i) i ≡ none)
-  pub not_ready : (n c l u : ℕ) (U : Table N.Value) (i : ℕ) (a : Answer) → storage_tests n c l u ≡ none → i < n → bad_diagonal N (U i i) i ≡ some a
-      → ready_under (storage_tests n c l u) (diagonals N U n) ≡ answered false

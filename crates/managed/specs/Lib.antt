@@ -6,4 +6,5 @@ pub mod Lists
 pub mod Demands
 pub mod WhichBuffer
 pub mod FiniteData
+pub mod ReadyFactors
 pub mod BenchTable

@@ -5,12 +5,10 @@
 ghost use Rattle.std.specs.Prelude.{◌≡◌, length};
 ghost use Rattle.std.specs.Float.{binary64};
 ghost use Rattle.numbers.specs.NumberForm.{ieee};
-ghost use Rattle.machine.specs.Solves.{diagonals};
 ghost use Rattle.machine.specs.Calls as calls;
 ghost use Rattle.storage.specs.Lengths.{required_lengths};
-ghost use Rattle.storage.specs.Views.{view_u};
 ghost use Rattle.managed.specs.Refusals.{storage_tests};
-ghost use Rattle.managed.specs.StorageAnswers.{ready_under};
+ghost use Rattle.managed.specs.StorageAnswers.{ready_answer};
 ghost use Rattle.answers.specs.Numbers.{index_after};
 ghost use Rattle.managed_c.specs.Returned.{SolveReturned, LengthsReturned, ReadyReturned};
 
@@ -87,11 +85,10 @@ pub extern "C" fn lumod_solve_transpose(
     result_number(result.answer)
 }
 
-// Whether a solve would be carried out.
+// Whether the factors are ready: no diagonal is refused and every active entry is finite.
 #[unsafe(no_mangle)]
 pub extern "C" fn lumod_ready(n: usize, c: usize, l: &[f64], u: &[f64], ready: &mut u8) -> u32
-    ensures { ReadyReturned (ready_under (storage_tests n c (length l.now) (length u.now)) (diagonals (ieee binary64) (view_u (ieee binary64) c u.now) n))
-        ready.old ready.new result }
+    ensures { ReadyReturned (ready_answer (ieee binary64) n c l.now u.now) ready.old ready.new result }
 {
     let state = LuMod {
         n,

@@ -65,3 +65,10 @@ double = nearest binary64
 
 abbrev pub whole : ℕ → Float
 whole n = double n 1
+
+-- the largest double and the least above zero
+abbrev pub largest : Float
+largest = of_bits binary64 0x7FEF_FFFF_FFFF_FFFF
+
+abbrev pub least : Float
+least = of_bits binary64 1

@@ -2,7 +2,7 @@
 
 use super::call::{Call, Function, Instance};
 use super::counter;
-use super::refusals::{bad_diagonal, index, lengths, number, published_number};
+use super::refusals::{index, is_ready, lengths, number, published_number};
 use crate::random::Random;
 
 /// All outputs that any call has besides its buffers, one beside the other. A
@@ -62,7 +62,7 @@ impl Outputs {
                 self.moved_row = moved(call.row);
                 self.moved_column = moved(call.column);
             }
-            Function::Ready => self.ready = u8::from(bad_diagonal(before).is_none()),
+            Function::Ready => self.ready = u8::from(is_ready(before)),
             _ => {}
         }
     }

@@ -44,7 +44,7 @@ fn play_lengths(
     random: &mut Random,
     comparison: &mut Comparison,
 ) -> Result<(), End> {
-    let call = call_of(Function::StorageLengths);
+    let call = Call::of(Function::StorageLengths);
     let mut sides = Sides::alone(Instance::new(0, 0, random));
     for instance in sides.archive.iter_mut().chain([&mut sides.rust]) {
         instance.c = c;
@@ -111,19 +111,10 @@ fn holding(factors: &Factors, c: usize, random: &mut Random) -> Instance {
     instance
 }
 
-fn call_of(function: Function) -> Call {
-    Call {
-        function,
-        row: 0,
-        column: 0,
-        diagonal: 0.0,
-    }
-}
-
 /// The call, with its data and new workspaces lent to every side.
 fn lend(operation: &Operation, sides: &mut Sides, random: &mut Random) -> Call {
     let mut data: [&[f64]; DATA.len()] = [&[]; DATA.len()];
-    let mut call = call_of(Function::Solve);
+    let mut call = Call::of(Function::Solve);
     match *operation {
         Operation::Push {
             row,

@@ -102,6 +102,16 @@ pub struct Call {
 }
 
 impl Call {
+    /// Of a function that takes no index and no diagonal, or before it is given them.
+    pub fn of(function: Function) -> Self {
+        Self {
+            function,
+            row: 0,
+            column: 0,
+            diagonal: 0.0,
+        }
+    }
+
     /// The data that the call lends to the factors, part by part.
     pub fn data<'a>(&'a self, instance: &'a Instance) -> Vec<&'a [f64]> {
         let [row, column] = [Name::Row, Name::Column].map(|name| instance.buffers[name].slice());

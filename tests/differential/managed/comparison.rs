@@ -9,7 +9,7 @@ use super::counter::allowed;
 use super::counts::Counts;
 use super::expected::Expected;
 use super::faults::{plant, plant_in_copy, Fault};
-use super::paths::{counter_paths, data_paths};
+use super::paths::{counter_paths, data_paths, ready_path};
 use super::plain::Plain;
 use super::published::call_rust;
 use super::refusals::NON_FINITE_DATA;
@@ -126,6 +126,7 @@ impl Comparison {
             paths.extend(counter_paths(call, before, &answer));
             paths.extend(data_paths(call, before, &answer));
         }
+        paths.extend(ready_path(call, before, &answer));
         self.counts.add(call, before, expected, paths);
         Ok(answer)
     }

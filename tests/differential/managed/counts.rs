@@ -5,7 +5,7 @@ use std::fmt;
 
 use super::call::{Call, Function, Instance, FUNCTIONS};
 use super::expected::Expected;
-use super::paths::{all_paths, NAN_GUARDS};
+use super::paths::{all_paths, NAN_GUARDS, READY};
 
 #[derive(Default)]
 pub struct Counts {
@@ -40,8 +40,9 @@ impl Counts {
         self.not_finite += u64::from(expected.buffers.has_result_not_finite());
     }
 
-    /// The answers and paths that have not occurred, and the guards that have met a NaN
-    /// less often than once in a hundred of all calls.
+    /// The answers and paths that have not occurred, the guards that have met a NaN less
+    /// often than once in a hundred of all calls, and what ready has answered, by one part
+    /// of the factors, less often than once in a thousand.
     pub fn unreached(&self, calls: u64) -> Vec<String> {
         let mut unreached = Vec::new();
         for function in FUNCTIONS {
@@ -55,6 +56,10 @@ impl Counts {
         let nans = self.nans().into_iter();
         let few = nans.filter(|(_, count)| *count < least);
         unreached.extend(few.map(|(guard, _)| format!("{least} NaNs at {guard} guard")));
+        let least = calls / 1000;
+        let ready = self.paths(Function::Ready).into_iter().take(READY.len());
+        let few = ready.filter(|(_, count)| *count < least);
+        unreached.extend(few.map(|(path, _)| format!("{least} times {path}")));
         unreached
     }
 
@@ -96,8 +101,9 @@ impl fmt::Display for Counts {
         for function in FUNCTIONS {
             let answers = join(self.answers(function));
             writeln!(f, "{} by answer: {answers}", function.text())?;
-            if function.is_update() {
-                writeln!(f, "    by path: {}", join(self.paths(function)))?;
+            let paths = self.paths(function);
+            if !paths.is_empty() {
+                writeln!(f, "    by path: {}", join(paths))?;
             }
         }
         let nans = join(self.nans().to_vec());

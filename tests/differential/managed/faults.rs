@@ -5,7 +5,8 @@ use std::mem::swap;
 use super::answer::{Answer, Outputs};
 use super::call::{Call, Function, Instance};
 use super::expected::Expected;
-use super::refusals::{lengths, NON_FINITE_DATA};
+use super::parts::PARTS;
+use super::refusals::{is_ready, lengths, non_finite_entries, NON_FINITE_DATA};
 use crate::buffers::{Name, VECTORS};
 use crate::expectation::Place;
 use crate::places::active;
@@ -38,6 +39,14 @@ pub enum Fault {
     Dimension,
     Lengths,
     Ready,
+    ReadyByDiagonal,
+    ReadyByU,
+    ReadyByLAndDiagonal,
+    ReadyBySolveWork,
+    ReadyByUnused,
+    ReadyAtInfinity,
+    ReadyAtNan,
+    ReadyAtZero,
     OutputAfterRefusal,
     Counter,
     CounterBeyondEnd,
@@ -52,7 +61,7 @@ use Fault::*;
 /// Every kind of fault, with what it changes in the last instance, or for the last
 /// kind in the plain copy.
 #[rustfmt::skip]
-pub const FAULTS: [(Fault, &str); 32] = [
+pub const FAULTS: [(Fault, &str); 40] = [
     (Factor, "the last bit of an active entry after an update"),
     (Solution, "the last bit of an entry of a solution"),
     (SignOfZero, "the sign of a zero in a result"),
@@ -78,6 +87,14 @@ pub const FAULTS: [(Fault, &str); 32] = [
     (Dimension, "the dimension after an update"),
     (Lengths, "the lengths of L and U, exchanged"),
     (Ready, "whether the factors are ready"),
+    (ReadyByDiagonal, "the answer of ready, by U's diagonal alone"),
+    (ReadyByU, "the answer of ready, by U alone"),
+    (ReadyByLAndDiagonal, "the answer of ready, by L and U's diagonal alone"),
+    (ReadyBySolveWork, "the answer of ready, by the solve work too"),
+    (ReadyByUnused, "the answer of ready, by unused storage within the capacity too"),
+    (ReadyAtInfinity, "the answer of ready, with infinities off the diagonal accepted"),
+    (ReadyAtNan, "the answer of ready, with NaNs off the diagonal accepted"),
+    (ReadyAtZero, "the answer of ready, with zeros on the diagonal accepted"),
     (OutputAfterRefusal, "an output after a refusal"),
     (Counter, "the counter after an update, one too many"),
     (CounterBeyondEnd, "the counter after an update, not stopped at 999,999"),
@@ -110,6 +127,7 @@ pub fn plant(
             .map(|(name, place)| Change::Place(name, place));
         let answer = wrong_answer(fault, call, expected.answer)
             .or_else(|| wrong_place(fault, call, before, expected.answer))
+            .or_else(|| wrong_ready(fault, call, before, expected.answer))
             .or_else(|| wrong_count(fault, call, outputs.of(before), expected.answer));
         changes.chain(answer.map(Change::Answer)).collect()
     });
@@ -199,6 +217,37 @@ fn wrong_place(fault: Fault, call: &Call, before: &Instance, answer: Answer) -> 
         _ => {}
     }
     (wrong != answer).then_some(wrong)
+}
+
+/// The same of ready, where the fault is a wrong rule.
+fn wrong_ready(fault: Fault, call: &Call, before: &Instance, answer: Answer) -> Option<Answer> {
+    if call.function != Function::Ready || answer.number != 0 {
+        return None;
+    }
+    let mut wrong = answer;
+    wrong.outputs.ready = u8::from(ready_by_rule(fault, before)?);
+    (wrong != answer).then_some(wrong)
+}
+
+/// What the wrong rule makes of the factors.
+fn ready_by_rule(fault: Fault, before: &Instance) -> Option<bool> {
+    let Instance { c, buffers, .. } = before;
+    let [l, u] = [Name::L, Name::U].map(|name| buffers[name].slice());
+    let finite = |values: &[f64]| values.iter().all(|value| value.is_finite());
+    let [sound_l, sound_diagonal, sound_above] = PARTS.map(|part| part.is_sound(before));
+    let entries = non_finite_entries(before);
+    let nan = |&(name, place): &(Name, usize)| buffers[name].slice()[place].is_nan();
+    Some(match fault {
+        ReadyByDiagonal => sound_diagonal,
+        ReadyByU => sound_diagonal && sound_above,
+        ReadyByLAndDiagonal => sound_diagonal && sound_l,
+        ReadyBySolveWork => is_ready(before) && finite(&l[c * c..][..*c]),
+        ReadyByUnused => is_ready(before) && finite(&l[..c * c]) && finite(&u[..c * (c + 1) / 2]),
+        ReadyAtInfinity => sound_diagonal && !entries.iter().any(nan),
+        ReadyAtNan => sound_diagonal && entries.iter().all(nan),
+        ReadyAtZero => entries.is_empty(),
+        _ => return None,
+    })
 }
 
 /// The number of another buffer than the one that was refused.

@@ -4,6 +4,7 @@
 use super::call::{Call, Function, Instance, DATA, FUNCTIONS};
 use super::comparison::{Comparison, Sides};
 use super::counter;
+use super::parts::with_one_unsound;
 use super::refusals::number;
 use super::refused::{make_refused, other_length, set_non_finite_data};
 use crate::buffers::{surplus, Buffer, Name};
@@ -250,11 +251,20 @@ impl List {
             .iter()
             .all(|instance| number(call, instance) == expected)
         {
-            return comparison.call(call, &mut self.sides, random);
+            let mut copies = self.copies_for_ready(call, &mut random.apart());
+            let sides = copies.as_mut().unwrap_or(&mut self.sides);
+            return comparison.call(call, sides, random);
         }
         archive.iter().try_for_each(|instance| {
             comparison.call(call, &mut Sides::alone(instance.clone()), random)
         })
+    }
+
+    /// Often other factors for ready, which leaves what it is lent as it was: the list goes on
+    /// with its own.
+    fn copies_for_ready(&self, call: &Call, random: &mut Random) -> Option<Sides> {
+        let chosen = call.function == Function::Ready && random.chance(1, 2);
+        chosen.then(|| with_one_unsound(&self.sides, random))
     }
 
     /// A call on a copy of one instance, sometimes with another counter and with

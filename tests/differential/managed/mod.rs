@@ -12,9 +12,11 @@ mod expected;
 mod faults;
 mod lists;
 mod pair;
+mod parts;
 mod paths;
 mod plain;
 mod published;
+mod readiness;
 mod refusals;
 mod refused;
 mod sets;
@@ -25,14 +27,21 @@ use crate::random::Random;
 use comparison::Comparison;
 pub use faults::FAULTS;
 
-/// A run of so many calls must reach every answer and every path, and enough NaNs at guards.
+/// A run of so many calls must reach every answer and every path, enough NaNs at guards, and
+/// ready often enough with each part of the factors not sound.
 const ENOUGH: u64 = 100_000;
 
-/// The bench table, sets of causes for a refusal, then lists. With a fault to plant
-/// lists alone.
+/// Larger factors are searched for ready once, and once more for so many calls.
+const CALLS_OF_A_SEARCH: u64 = 200_000;
+
+/// The bench table, sets of causes for a refusal, ready at every place, then lists. With a
+/// fault to plant lists alone.
 pub fn run(wanted: u64, seed: u64, kind: usize) -> End {
     if kind == 0 {
-        if let Err(end) = play_bench_table(seed).and_then(|()| call_sets(seed)) {
+        let before = play_bench_table(seed)
+            .and_then(|()| call_sets(seed))
+            .and_then(|()| search_for_ready(wanted, seed));
+        if let Err(end) = before {
             return end;
         }
     }
@@ -58,6 +67,23 @@ fn call_sets(seed: u64) -> Result<(), End> {
     let sets = sets::call_all(&mut Random::new(seed), &mut comparison)?;
     let made = comparison.calls.made;
     println!("{sets} sets of causes for a refusal, in {made} calls; 0 differences");
+    Ok(())
+}
+
+fn search_for_ready(wanted: u64, seed: u64) -> Result<(), End> {
+    let planter = Planter::of_kind(&FAULTS, 0, seed);
+    let calls = Calls::new(u64::MAX, seed).of_run(wanted);
+    let mut comparison = Comparison::new(calls, planter);
+    let larger = 1 + wanted / CALLS_OF_A_SEARCH;
+    let cases = readiness::search(larger, &mut Random::new(seed), &mut comparison)?;
+    let made = comparison.calls.made;
+    let all: usize = cases.iter().sum();
+    println!("{all} storages with a value at one place or two, in {made} calls; 0 differences");
+    println!("    by case: {}", readiness::text(&cases));
+    if cases[..3].contains(&0) {
+        println!("never reached: a case of ready");
+        return Err(End::NotReached);
+    }
     Ok(())
 }
 

@@ -1,10 +1,12 @@
 //! The paths of an update: where its row and column are, what becomes of every
 //! pair of each Forward and Backward, which the plain copy notes as it runs,
-//! what becomes of the counter, and what data are refused.
+//! what becomes of the counter, and what data are refused. The paths of ready:
+//! what it answers, and for which part of the factors.
 
 use super::answer::Answer;
 use super::call::{Call, Function, Instance};
 use super::counter::{most, END};
+use super::parts::PARTS;
 use super::refusals::NON_FINITE_DATA;
 
 /// By what becomes of a pair, as are the three below. The last is taken besides where a
@@ -68,6 +70,15 @@ const COUNTER: [&str; 6] = [
     "most pair steps",
 ];
 
+/// By the part of the factors for which alone they are not ready.
+pub const READY: [&str; 4] = [
+    "ready",
+    "not ready by L alone",
+    "not ready by the diagonal alone",
+    "not ready by U above the diagonal alone",
+];
+const NOT_READY_BY_SEVERAL: &str = "not ready by several of these";
+
 /// The paths of a function that a run must take.
 pub fn all_paths(function: Function) -> Vec<&'static str> {
     let paths: &[&[&str]] = match function {
@@ -95,6 +106,7 @@ pub fn all_paths(function: Function) -> Vec<&'static str> {
             &FORWARD,
             &LAST_BACKWARD,
         ],
+        Function::Ready => return [&READY[..], &[NOT_READY_BY_SEVERAL]].concat(),
         _ => return vec![],
     };
     [&paths.concat()[..], &FIRST_FORWARD, &COUNTER].concat()
@@ -162,4 +174,18 @@ fn refused_value(value: f64) -> &'static str {
         _ if quiet => 2,
         _ => 3,
     }]
+}
+
+/// Which parts of the factors are not sound, where ready is not refused.
+pub fn ready_path(call: &Call, before: &Instance, answer: &Answer) -> Option<&'static str> {
+    if call.function != Function::Ready || answer.number != 0 {
+        return None;
+    }
+    Some(match PARTS.map(|part| part.is_sound(before)) {
+        [true, true, true] => READY[0],
+        [false, true, true] => READY[1],
+        [true, false, true] => READY[2],
+        [true, true, false] => READY[3],
+        _ => NOT_READY_BY_SEVERAL,
+    })
 }

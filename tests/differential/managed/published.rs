@@ -29,12 +29,16 @@ fn lengths(capacity: usize, outputs: &mut Outputs) -> Result<(), u32> {
     Ok(())
 }
 
-/// The Rust has no such call: the factors are ready if a solve is accepted.
+/// The Rust has no such call: the factors are ready if a solve of zeros is accepted and gives
+/// zeros. It multiplies a zero by every active entry of L and by every one of U above the
+/// diagonal, and an infinity or a NaN among them leaves a NaN.
 fn ready(mut copy: Instance, outputs: &mut Outputs) -> Result<(), u32> {
     let [l, u, ..] = copy.buffers.slices_mut();
     let factors = LuMod::from_storage(copy.n, copy.c, l, u).map_err(storage_number)?;
-    let solved = factors.solve_in_place(&mut vec![0.0; copy.n]);
-    outputs.ready = u8::from(solved.is_ok());
+    let mut solution = vec![0.0; copy.n];
+    let solved = factors.solve_in_place(&mut solution);
+    let zeros = solution.iter().all(|&value| value == 0.0);
+    outputs.ready = u8::from(solved.is_ok() && zeros);
     Ok(())
 }
 

@@ -1,9 +1,9 @@
 //! Document 01's refusals 1 to 10 and document 02's 13, 14 and 23: when each holds, and in
-//! which order they are tested.
+//! which order they are tested. Also when factors are ready.
 
 use super::call::{Call, Function, Instance};
 use crate::buffers::{Name, VECTORS};
-use crate::places::diagonal;
+use crate::places::{active, diagonal};
 
 /// What a call is refused for.
 #[derive(Clone, Copy, PartialEq)]
@@ -176,4 +176,17 @@ pub fn bad_diagonal(instance: &Instance) -> Option<(usize, u32)> {
             _ if !entry.is_finite() => Some((index, 10)),
             _ => None,
         })
+}
+
+/// Where the active entries are infinite or NaN, in storage that has passed its tests.
+pub fn non_finite_entries(instance: &Instance) -> Vec<(Name, usize)> {
+    let Instance { n, c, buffers, .. } = instance;
+    let finite = |(name, place): (Name, usize)| buffers[name].slice()[place].is_finite();
+    let entries = active(*c, *n);
+    entries.filter(|&entry| !finite(entry)).collect()
+}
+
+/// Document 02's rule: no diagonal is refused and every active entry is finite.
+pub fn is_ready(instance: &Instance) -> bool {
+    bad_diagonal(instance).is_none() && non_finite_entries(instance).is_empty()
 }

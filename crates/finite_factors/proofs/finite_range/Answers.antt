@@ -1,14 +1,21 @@
--- `finite_range`: the test of an entry, made of all entries.
-use Rattle.std.proofs.Common.{◌∙◌, ◌&&◌, true, rules, tests}
-use Rattle.std.proofs.lemmas.Iterator.{YieldsList-from_slice}
-use Rattle.std.proofs.lemmas.Iterator.Consumers.{fold_from_yields_List}
+-- `finite_range`: the fours, then the others.
+use mathlib.Core.Path.{sym, ap, ◌∙◌}
+use mathlib.Core.Bool.{◌&&◌}
+use Prim.Native.Nat.{◌-◌, ◌%◌}
+use native.Mathlib.Omega.{arith}
 use lib.Ieee.{binary64}
-use lib.Ieee.Scale.{finite}
-use Rattle.numbers.specs.NumberForm.{ieee}
-use Rattle.finite_factors.proofs.Rows.{folded_finite}
+use lib.ListN.{length}
+use Rattle.std.proofs.lemmas.List.{take_rest}
+use Rattle.numbers.specs.NumberForm.{NumberForm, ieee}
+use Rattle.finite_factors.proofs.Rows.{finite_list, finite_parts}
 use Rattle.finite_factors.proofs.finite_range.Goals as goal
+
+abbrev N : NumberForm
+N = ieee binary64
 
 pub returns : goal.returns
 returns c =
     let xs = c.args.values.now in
-    fold_from_yields_List _ (λ all x. all && finite x) true _ c.fold.ensures.ran (YieldsList-from_slice {s = c.iter.result} xs (search rules)) (λ a x b q k. search (rules, tests)) ∙ folded_finite (ieee binary64) xs true
+    let fours = length xs - length xs % 4 in
+    let others = c.finite_each.ensures ∙ ap (finite_list N) (take_rest xs fours) in
+    (λ t. c.finite_fours.ensures t && others t) ∙ sym (finite_parts N fours xs (omega arith))
