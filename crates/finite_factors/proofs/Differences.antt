@@ -14,17 +14,17 @@ use Rattle.finite_factors.specs.Differences.{zero_or_nan}
 
 -- ---- one value
 
--- 0 / c rounds to +0
-zero_rounds : (f : Format) (c : ℕ) → 0 < c → round f false 0 c ≡ fin false 0 (pos 0)
+-- 0 / c rounds to the zero of its sign
+zero_rounds : (f : Format) (s : Bool) (c : ℕ) → 0 < c → round f s 0 c ≡ fin s 0 (pos 0)
 unfolding round
-zero_rounds binary32 c h = round_same binary32 false 0 c 0 1 h (zero-lt-suc 0) (sym (zero-mul c))
-zero_rounds binary64 c h = round_same binary64 false 0 c 0 1 h (zero-lt-suc 0) (sym (zero-mul c))
+zero_rounds binary32 s c h = round_same binary32 s 0 c 0 1 h (zero-lt-suc 0) (sym (zero-mul c))
+zero_rounds binary64 s c h = round_same binary64 s 0 c 0 1 h (zero-lt-suc 0) (sym (zero-mul c))
 
 -- an equal magnitude of the other sign leaves +0
 opposites : (f : Format) (s : Bool) (a c : ℕ) → 0 < c → sum f s a (not s) a c ≡ fin false 0 (pos 0)
 unfolding sum
-opposites f true a c h = rw (is_false (ltb a a) (le→nltb a a (le_refl a)), sub_self a) (zero_rounds f c h)
-opposites f false a c h = rw (is_false (ltb a a) (le→nltb a a (le_refl a)), sub_self a) (zero_rounds f c h)
+opposites f true a c h = rw (is_false (ltb a a) (le→nltb a a (le_refl a)), sub_self a) (zero_rounds f false c h)
+opposites f false a c h = rw (is_false (ltb a a) (le→nltb a a (le_refl a)), sub_self a) (zero_rounds f false c h)
 
 pub difference_is : (f : Format) (x : Float) → sub f x x ≡ zero_or_nan (finite x)
 unfolding sub

@@ -15,11 +15,19 @@ use Rattle.machine.specs.Readiness.{all_below}
 use Rattle.machine.proofs.Choice.{tabulate_at, tabulate_length}
 use Rattle.machine.proofs.Readiness.{same_below}
 
+-- the places below n, and m more
+pub all_below_both : (n m : ℕ) (test : ℕ → Bool) → all_below (n + m) test ≡ (all_below n test && all_below m (λ j. test (n + j)))
+unfolding all_below
+all_below_both n zero test = ap (λ (k : ℕ). all_below k test) (add-zero n) ∙ sym (and-true (all_below n test))
+all_below_both n (suc m) test =
+    ap (λ (k : ℕ). all_below k test) (add-suc n m) ∙ (λ t. all_below_both n m test t && test (n + m)) ∙ and_assoc (all_below n test) _ _
+
 -- the first place before the others
 first_below : (k : ℕ) (test : ℕ → Bool) → all_below (suc k) test ≡ (test 0 && all_below k (λ i. test (suc i)))
 unfolding all_below
-first_below zero test = sym (and-true (test 0))
-first_below (suc k) test = (λ t. first_below k test t && test (suc k)) ∙ and_assoc (test 0) _ _
+first_below k test =
+    let long : suc k ≡ 1 + k = omega arith in
+    ap (λ (m : ℕ). all_below m test) long ∙ all_below_both 1 k test ∙ λ t. test 0 && same_below k _ _ (λ i h. let e : 1 + i ≡ suc i = omega arith in ap test e) t
 
 -- the numbers from `start` on
 all_from : (count start : ℕ) (test : ℕ → Bool) → list_all test (range_with_len start count) ≡ all_below count (λ i. test (start + i))
@@ -29,13 +37,6 @@ all_from (suc n) start test =
     let here : start ≡ start + 0 = omega arith in
     let others = all_from n (start + 1) test ∙ same_below n _ _ (λ i h. let e : start + 1 + i ≡ start + suc i = omega arith in ap test e) in
     (λ t. test (here t) && others t) ∙ sym (first_below n (λ i. test (start + i)))
-
--- the places below n, and m more
-pub all_below_both : (n m : ℕ) (test : ℕ → Bool) → all_below (n + m) test ≡ (all_below n test && all_below m (λ j. test (n + j)))
-unfolding all_below
-all_below_both n zero test = ap (λ (k : ℕ). all_below k test) (add-zero n) ∙ sym (and-true (all_below n test))
-all_below_both n (suc m) test =
-    ap (λ (k : ℕ). all_below k test) (add-suc n m) ∙ (λ t. all_below_both n m test t && test (n + m)) ∙ and_assoc (all_below n test) _ _
 
 module _ (N : NumberForm) where
   open N use {Value, is_finite}
