@@ -1,11 +1,13 @@
 //! Times the managed calls of the archive and of the published Rust on the same inputs; built
-//! with `--cfg before`, those of two archives.
+//! with `--cfg before`, those of two archives. Then the calls on cards, beside copies of as many
+//! bytes; with `--cfg before_cards` those of two archives.
 //!
 //! Argument: the seed of the inputs. Exit status: 0 measured, 1 the two sides differ, else it
 //! broke off.
 #![allow(unknown_lints, unexpected_cfgs)]
 
 mod batch;
+mod cards;
 mod check;
 mod inputs;
 mod measure;
@@ -58,6 +60,7 @@ fn main() -> ExitCode {
         return ExitCode::from(1);
     }
     print_table(&all);
+    cards::print_table(&all);
     ExitCode::SUCCESS
 }
 

@@ -34,7 +34,8 @@
  *
  * Buffers. A buffer is a pointer and then its length in doubles. The pointer
  * is aligned for double, and as many doubles as the length says can be read
- * there, and written unless it is a pointer to const. Every other pointer
+ * there, and written unless it is a pointer to const. A card is a buffer of
+ * bytes, with its length in bytes and at any address. Every other pointer
  * leads to one number that can be read and written. No pointer is null, also
  * where a length is 0. What the pointers of one call lead to does not overlap.
  * These points are not tested.
@@ -62,8 +63,9 @@
 /*
  * What the functions return. All but LUMOD_OK are refusals, and with a refusal
  * nothing is written anywhere, except that *index is written with 9, 10 and
- * 23, and *steps by every managed update. With every other number, LUMOD_OK
- * among them, *index is unchanged. It needs no content before the call.
+ * 23, *block with 16, and *steps by every managed update. With every other
+ * number, LUMOD_OK among them, *index and *block are unchanged. They need no
+ * content before the call.
  */
 #define LUMOD_OK 0u                     /* carried out */
 #define LUMOD_INVALID_DIMENSION 1u      /* n is more than the capacity */
@@ -80,6 +82,9 @@
 #define LUMOD_TOO_SMALL 12u             /* stride or buffer too small for n */
 #define LUMOD_INSUFFICIENT_U 13u        /* u is too short */
 #define LUMOD_UNEQUAL_WORKSPACES 14u    /* y, z and w of unequal length */
+#define LUMOD_INVALID_CARD_LENGTH 15u   /* not whole blocks, or too short */
+#define LUMOD_DAMAGED_BLOCK 16u         /* a block whose check word is wrong */
+#define LUMOD_INVALID_CARD 17u          /* sound blocks that are no card */
 #define LUMOD_NON_FINITE_DATA 23u       /* an infinity or NaN in lent data */
 
 #ifdef __cplusplus
@@ -120,8 +125,9 @@ extern "C" {
  * another. Each elimination is a pair step, also where its multiplier is zero.
  * An entry that is passed over, as one within the tolerance E is, takes none.
  * The counter adds up the pair steps of all updates. The host keeps it as it
- * keeps n, sets it to 0 when it adopts storage, and hands it to each update.
- * No other call takes it. *steps needs no content before the call.
+ * keeps n, sets it to 0 when it adopts storage or gets it from a card, and
+ * hands it to each update. Of the other calls lumod_write_card and
+ * lumod_read_card alone take it. *steps needs no content before the call.
  *
  *     LUMOD_OK   *steps is the exact number of the update's pair steps.
  *                *counter grows by it, but stops at 999999. A larger figure
@@ -353,6 +359,104 @@ uint32_t lumod_solve_transpose(size_t n, size_t c, double *l, size_t l_len,
  */
 uint32_t lumod_ready(size_t n, size_t c, const double *l, size_t l_len,
                      const double *u, size_t u_len, uint8_t *ready);
+
+/*
+ * Cards. A card is a dimension, a counter and the active factors as bytes, to
+ * be kept in a file and read later: by any program, at any capacity that is
+ * not less than the dimension. Updates and solves then go on as they would
+ * have gone on without it. The workspaces and the capacity are not on it.
+ *
+ * A card consists of blocks of 512 bytes, numbered from 0. A block is 64 words
+ * of 64 bits, each with its least significant byte first. The last one is the
+ * check word: the sum of the 63 words before it and of the block's number,
+ * modulo 2^64.
+ *
+ *     block 0           Word 0 is n, word 1 the number of all blocks, block 0
+ *                       included, and word 2 the counter, a larger figure than
+ *                       999999 being written as 999999. Words 3 to 62 are 0.
+ *     all other blocks  The active L(i,j) row by row, then the active U(i,j)
+ *                       row by row, each row from its diagonal entry on: the
+ *                       bits of the doubles, 63 in a block. A NaN is always
+ *                       0x7FF8000000000000. The rest of the last block is 0.
+ *
+ * At dimension 0 there is block 0 alone. Equal dimensions, counters and active
+ * entries, with all NaNs alike, always give the same bytes.
+ *
+ * A card that is read is, byte for byte, what lumod_write_card writes of the
+ * state that was read. Damage within one word of a block is always found then.
+ * Damage to several words of a block is not found where it leaves their sum as
+ * it was.
+ */
+
+/*
+ * lumod_card_length gives the length of a card in bytes.
+ *
+ * Needs: nothing but the dimension.
+ *
+ * Returns:
+ *     LUMOD_OK             The length is in *bytes.
+ *     LUMOD_SIZE_OVERFLOW  It is more than SIZE_MAX, which means that n is
+ *                          1230125797 or more.
+ *
+ * Leaves, with LUMOD_OK:
+ *     *bytes  512 * (1 + e / 63), with e / 63 rounded up. e is the number of
+ *             active entries, which is n * n + n * (n + 1) / 2.
+ */
+uint32_t lumod_card_length(size_t n, size_t *bytes);
+
+/*
+ * lumod_write_card writes a dimension, a counter and the active factors to the
+ * beginning of card.
+ *
+ * Needs: factors of dimension n; card at least as long as lumod_card_length
+ * says. Of l and u only the active entries are looked at, and card needs no
+ * content.
+ *
+ * Returns:
+ *     LUMOD_OK                   The card was written.
+ *     the storage tests
+ *     LUMOD_INVALID_CARD_LENGTH  card_len is less than the card's length.
+ *
+ * Leaves, with LUMOD_OK:
+ *     card      The card's bytes. Those beyond its length are unchanged.
+ *     *written  Its length.
+ *     l, u      Unchanged.
+ */
+uint32_t lumod_write_card(size_t n, size_t c, size_t counter, const double *l,
+                          size_t l_len, const double *u, size_t u_len,
+                          uint8_t *card, size_t card_len, size_t *written);
+
+/*
+ * lumod_read_card reads a card into storage of capacity c. It can have been
+ * written at another capacity.
+ *
+ * Needs: a card of dimension c or less, and nothing behind it: card_len is the
+ * card's length. What *n, *counter, l and u hold before is not looked at.
+ *
+ * Returns:
+ *     LUMOD_OK                   The card was read.
+ *     the storage tests, but LUMOD_INVALID_DIMENSION comes last
+ *     LUMOD_INVALID_CARD_LENGTH  card_len is 0 or not a multiple of 512.
+ *     LUMOD_DAMAGED_BLOCK        A block's check word is wrong.
+ *     LUMOD_INVALID_CARD         card_len / 512 is not word 1 of block 0, or
+ *                                not the number of blocks that its word 0
+ *                                needs as a dimension; or word 2 is more than
+ *                                999999; or a word that is to be 0 is not; or
+ *                                an entry is a NaN of another pattern.
+ *     LUMOD_INVALID_DIMENSION    The card's dimension is more than c.
+ *
+ * Leaves, with LUMOD_OK:
+ *     *n        The card's dimension.
+ *     *counter  The card's counter.
+ *     l         L(i,j), i < *n and j < *n.
+ *     u         U(i,j), i <= j < *n.
+ *     card      Unchanged.
+ * With LUMOD_DAMAGED_BLOCK:
+ *     *block  The number of the first such block.
+ */
+uint32_t lumod_read_card(size_t *n, size_t c, size_t *counter, double *l,
+                         size_t l_len, double *u, size_t u_len,
+                         const uint8_t *card, size_t card_len, size_t *block);
 
 /*
  * The zero-based calls. A solve is two of them:

@@ -1,5 +1,6 @@
-// The header from C++: two pushes and a solve in each family of calls.
+// The header from C++: two pushes and a solve in each family of calls, and a card.
 #include <cmath>
+#include <cstdint>
 #include <cstdio>
 
 #include "lumod.h"
@@ -54,9 +55,36 @@ static bool managed() {
     return right && counter == 5 && steps == 2;
 }
 
+// Factors of dimension 1, read from their card at another capacity.
+static bool cards() {
+    const double l[2] = {1, 0}, u[1] = {2};
+    double other_l[6] = {0, 0, 0, 0, 0, 0}, other_u[3] = {0, 0, 0};
+    std::uint8_t card[1024];
+    size_t n = 0, bytes, written, counter = 0, block = 7;
+    bool right = lumod_card_length(1, &bytes) == LUMOD_OK && bytes == sizeof card;
+    right = right && lumod_write_card(1, 1, 3, l, 2, u, 1, card, bytes, &written) == LUMOD_OK;
+    right = right && written == bytes && card[0] == 1 && card[8] == 2 && card[16] == 3;
+    right = right && lumod_read_card(&n, 2, &counter, other_l, 6, other_u, 3, card, written,
+                                     &block) == LUMOD_OK;
+    right = right && n == 1 && counter == 3 && other_l[0] == 1 && other_u[0] == 2 && block == 7;
+    right = right && lumod_read_card(&n, 2, &counter, other_l, 6, other_u, 3, card, 1023,
+                                     &block) == LUMOD_INVALID_CARD_LENGTH;
+    card[16] = 4;
+    right = right && lumod_read_card(&n, 2, &counter, other_l, 6, other_u, 3, card, written,
+                                     &block) == LUMOD_DAMAGED_BLOCK;
+    right = right && block == 0;
+    // Three blocks by word 1, with a right check word.
+    card[16] = 3, card[8] = 3, card[504]++;
+    return right && lumod_read_card(&n, 2, &counter, other_l, 6, other_u, 3, card, written,
+                                    &block) == LUMOD_INVALID_CARD;
+}
+
 static int report(const char *family, bool right) {
     std::printf("%s from C++: 1 check, %d failed\n", family, right ? 0 : 1);
     return right ? 0 : 1;
 }
 
-int main() { return report("zero-based", zero_based()) + report("managed", managed()); }
+int main() {
+    return report("zero-based", zero_based()) + report("managed", managed()) +
+           report("cards", cards());
+}

@@ -2,7 +2,7 @@
  * Tests of the managed calls from C: the bench table, known results, what a
  * removal moves, any diagonal, empty factors, adopted storage, every refusal,
  * data that are not finite, factors that are not, pair steps and their counter,
- * and a matrix that is kept beside its factors.
+ * a matrix that is kept beside its factors, and cards.
  * The last line counts the checks. The exit status is 1 where one failed.
  */
 #include <math.h>
@@ -11,6 +11,7 @@
 #include <string.h>
 
 #include "managed_calls.h"
+#include "managed_cards.h"
 #include "managed_counter.h"
 #include "managed_data.h"
 #include "managed_kept_matrix.h"
@@ -434,5 +435,10 @@ int main(void) {
     check_data();
     check_readiness();
     check_managed_refusals();
+    check_cards();
+    check_bare_cards();
+    check_large_card();
+    check_card_damage();
+    check_card_refusals();
     return end_checks();
 }

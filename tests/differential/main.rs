@@ -1,6 +1,6 @@
 //! Compares the archive's calls with the published Rust's.
 //!
-//! Arguments: the interface, zero-based or managed; how many calls; the seed;
+//! Arguments: the interface, zero-based, managed or cards; how many calls; the seed;
 //! and the kind of a planted fault (from 1; 0: none). With the interface and
 //! the word kinds alone, prints how many kinds of planted faults it has.
 //! Exit status: 0 no difference, 1 a difference or something that was not
@@ -9,6 +9,7 @@
 mod bench_table;
 mod buffers;
 mod calls;
+mod cards;
 mod data;
 mod expectation;
 mod factors;
@@ -34,7 +35,7 @@ fn main() -> ExitCode {
             ExitCode::from(2)
         }
         None => {
-            eprintln!("usage: differential zero-based|managed CALLS SEED KIND, or kinds");
+            eprintln!("usage: differential zero-based|managed|cards CALLS SEED KIND, or kinds");
             ExitCode::from(2)
         }
     }
@@ -46,6 +47,7 @@ fn run(words: &[&str]) -> Option<End> {
     let (kinds, run): (usize, fn(u64, u64, usize) -> End) = match *interface {
         "zero-based" => (zero_based::FAULTS.len(), zero_based::run),
         "managed" => (managed::FAULTS.len(), managed::run),
+        "cards" => (cards::FAULTS.len(), cards::run),
         _ => return None,
     };
     match *words {

@@ -10,7 +10,8 @@ use borrow.Author.Tests.{leb-false, ltb-false}
 use lib.Ieee.Fits.{eq→eqb, and_l, and_r}
 use Rattle.machine.specs.Tables.{Vector, State, Work, state_of, tabulate}
 use Rattle.machine.specs.Calls.{Result}
-use Rattle.machine.specs.Agreement.{Agree, Same, AgreeWithin}
+use Rattle.machine.specs.Counter.{CountedState}
+use Rattle.machine.specs.Agreement.{Agree, Same, AgreeCounted, AgreeWithin}
 
 -- ---- tests
 
@@ -132,3 +133,11 @@ module _ {A : Type 0} where
 
   pub same_trans : {a b c : Result A} → Same a b → Same b c → Same a c
   same_trans h g = record { answer = h.answer ∙ g.answer; solved = h.solved ∙ g.solved; after = agree_trans h.after g.after }
+
+  -- ---- the same with counters
+
+  pub agree_counted_sym : {S R : CountedState A} → AgreeCounted S R → AgreeCounted R S
+  agree_counted_sym h = record { state = agree_sym h.state; counter = sym h.counter }
+
+  pub agree_counted_trans : {S R Q : CountedState A} → AgreeCounted S R → AgreeCounted R Q → AgreeCounted S Q
+  agree_counted_trans h g = record { state = agree_trans h.state g.state; counter = h.counter ∙ g.counter }

@@ -10,7 +10,7 @@ use Rattle.machine.specs.Tables.{State}
 use Rattle.machine.specs.Calls.{Call, Answer, Result, is_update}
 use Rattle.machine.specs.Machine.{refusal, step, run}
 use Rattle.machine.specs.Counts.{count}
-use Rattle.machine.specs.Counter.{capped, counter_under, CountedState, CountedResult, after_counted, counted_step, counted_run}
+use Rattle.machine.specs.Counter.{capped, counter_under, CountedState, CountedResult, after_counted, figures_of, counted_step, counted_run}
 
 -- what each call leaves, without numbers and counters
 abbrev pub results_of : {A : Type 0} → List (CountedResult A) → List (Result A)
@@ -21,11 +21,6 @@ pub counted_run_is_run : (N : NumberForm) (E T : N.Value) (S : CountedState N.Va
 unfolding counted_run counted_step run
 counted_run_is_run N E T S [] = refl
 counted_run_is_run N E T S (c ∷ cs) = λ i. (counted_step N E T S c).result ∷ counted_run_is_run N E T (after_counted (counted_step N E T S c)) cs i
-
--- what each call leaves, with the figure that its counter counts as
-abbrev pub figures_of : {A : Type 0} → List (CountedResult A) → List (CountedResult A)
-figures_of [] = []
-figures_of (r ∷ rs) = record { result = r.result; steps = r.steps; counter = capped r.counter } ∷ figures_of rs
 
 alike_by_kind : (b : Bool) (k k' m : ℕ) → capped k ≡ capped k' → capped (cond b (capped (k + m)) k) ≡ capped (cond b (capped (k' + m)) k')
 alike_by_kind true k k' m h = omega arith

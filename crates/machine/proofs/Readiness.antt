@@ -17,14 +17,14 @@ use Rattle.machine.proofs.Solves.{diagonals_same}
 
 -- ---- a test of all places below k
 
-holds_below : (k : ℕ) (test : ℕ → Bool) → all_below k test ≡ true → (i : ℕ) → i < k → test i ≡ true
+pub holds_below : (k : ℕ) (test : ℕ → Bool) → all_below k test ≡ true → (i : ℕ) → i < k → test i ≡ true
 unfolding all_below
 holds_below zero test e i h = absurd (omega arith)
 holds_below (suc k) test e i h =
     let b = (and-eq-true_iff (all_below k test) (test k)).0 e in
     ⊎_elim (λ p. ap test p ∙ b.1) (holds_below k test b.0 i) (eq-or-lt_of_le (le_of_suc-le-suc h))
 
-true_below : (k : ℕ) (test : ℕ → Bool) → ((i : ℕ) → i < k → test i ≡ true) → all_below k test ≡ true
+pub true_below : (k : ℕ) (test : ℕ → Bool) → ((i : ℕ) → i < k → test i ≡ true) → all_below k test ≡ true
 unfolding all_below
 true_below zero test h = refl
 true_below (suc k) test h = λ t. true_below k test (λ i l. h i (omega arith)) t && h k (omega arith) t

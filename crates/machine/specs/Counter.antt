@@ -37,6 +37,14 @@ pub record CountedResult (A : Type 0) : Type 0 where
 abbrev pub after_counted : {A : Type 0} → CountedResult A → CountedState A
 after_counted r = record { state = r.result.after; counter = r.counter }
 
+-- a state, and what each call leaves, with the figure that the counter counts as
+abbrev pub as_counted : {A : Type 0} → CountedState A → CountedState A
+as_counted S = record { state = S.state; counter = capped S.counter }
+
+abbrev pub figures_of : {A : Type 0} → List (CountedResult A) → List (CountedResult A)
+figures_of [] = []
+figures_of (r ∷ rs) = record { result = r.result; steps = r.steps; counter = capped r.counter } ∷ figures_of rs
+
 module _ (N : NumberForm) (E T : N.Value) where
   open N use {Value}
 

@@ -26,7 +26,7 @@ module _ {A : Type 0} where
   same_counted_join h k = record { result = same_trans (same_sym h.result) k.result; steps = sym h.steps ∙ k.steps; counter = sym h.counter ∙ k.counter }
 
   -- what is the same as one list of results is the same as each other
-  all_same_join : (as' bs cs : List (CountedResult A)) → AllSame as' bs → AllSame as' cs → AllSame bs cs
+  pub all_same_join : (as' bs cs : List (CountedResult A)) → AllSame as' bs → AllSame as' cs → AllSame bs cs
   all_same_join [] [] [] h k = tt
   all_same_join [] [] (c ∷ cs) h k = k
   all_same_join [] (b ∷ bs) [] h k = h
@@ -49,7 +49,7 @@ module _ (N : NumberForm) (E T : N.Value) where
   accepted_grows S (solve b) = omega arith
   accepted_grows S (solve_transpose b) = omega arith
 
-  step_grows : (S : State Value) (c : Call Value) → (step N E T S c).after.n ≤ S.n + cond (is_push c) 1 0
+  pub step_grows : (S : State Value) (c : Call Value) → (step N E T S c).after.n ≤ S.n + cond (is_push c) 1 0
   unfolding step step_under
   step_grows S c = go (refusal N S c)
     where
@@ -77,7 +77,7 @@ module _ (N : NumberForm) (E T : N.Value) where
       }
 
   -- a list: one instance against the machine
-  trace_same : (capacity room : ℕ) (S R : CountedState Value) (cs : List (Call Value)) (es : List (Event Value)) → AgreeCounted S R → S.state.n + pushes cs ≤ room → room ≤ capacity
+  pub trace_same : (capacity room : ℕ) (S R : CountedState Value) (cs : List (Call Value)) (es : List (Event Value)) → AgreeCounted S R → S.state.n + pushes cs ≤ room → room ≤ capacity
       → Trace N E T capacity room R cs es → AllSame (counted_run N E T S cs) (results N es)
   unfolding counted_run counted_step
   trace_same capacity room S R [] [] a l r t = tt

@@ -15,10 +15,11 @@ impl fmt::Display for Position {
     }
 }
 
-// How many calls there were, how many pair steps and differences, and how many answers of each number up to 23.
+// How many calls there were, how many cards between them, how many pair steps and differences, and how many answers of each number up to 23.
 #[derive(Debug, Default, Drop)]
 pub struct Counts {
     calls: u64,
+    cards: u64,
     steps: u64,
     differences: u64,
     answers: [u64; 24],
@@ -32,6 +33,11 @@ impl Counts {
         if let Some(count) = self.answers.get_mut(called.answer.number) {
             *count = count.wrapping_add(1);
         }
+    }
+
+    // Counts a card.
+    pub fn count_card(&mut self) {
+        self.cards = self.cards.wrapping_add(1);
     }
 
     // Counts a difference, and names the first few.
@@ -49,8 +55,8 @@ impl fmt::Display for Counts {
         let answers = &self.answers;
         write!(
             f,
-            "{} calls, {} pair steps, refusals 1 to 10, 13, 14 and 23:",
-            self.calls, self.steps
+            "{} calls, {} cards, {} pair steps, refusals 1 to 10, 13, 14 and 23:",
+            self.calls, self.cards, self.steps
         )?;
         for count in &answers[1..11] {
             write!(f, " {count}")?;

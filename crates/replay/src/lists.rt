@@ -69,7 +69,23 @@ fn replay_record(
     Ok(())
 }
 
-// A list: its number of calls, its capacity, its dimension, its factors and its calls.
+// Goes on from a card: the factors are written to it and read into buffers with the next list's unused contents.
+fn resume(
+    rt: &(impl Print + AllocGlobal),
+    factors: &Factors<'_>,
+    position: Position,
+    buffers: &mut Buffers,
+    counts: &mut Counts,
+) -> io::Result<()> {
+    counts.count_card();
+    match buffers.through_card(factors, position.list.wrapping_add(1)) {
+        Some(read) => *buffers = read,
+        None => counts.note(rt, position, "no card")?,
+    }
+    Ok(())
+}
+
+// A list: its number of calls, its capacity, its dimension, its factors and its calls. Before every third call it goes on from a card.
 fn replay_list(
     rt: &(impl Print + AllocGlobal),
     reader: &mut Reader<'_>,
@@ -84,7 +100,11 @@ fn replay_list(
     for call in 1..=start.calls {
         let at = reader.at();
         let record = Record::read(reader, factors).ok_or(Malformed { at })?;
-        replay_record(rt, &record, Position { list, call }, &mut buffers, counts)?;
+        let position = Position { list, call };
+        if call % 3 == 0 {
+            resume(rt, &factors, position, &mut buffers, counts)?;
+        }
+        replay_record(rt, &record, position, &mut buffers, counts)?;
         factors = record.expected.factors;
     }
     Ok(())

@@ -3,10 +3,15 @@ ghost use Rattle.std.specs.Prelude.{◌≤◌};
 
 use crate::compare::differ;
 use crate::sample::{Reader, double};
+use api::LuMod;
+use cards::{read_card, write_card};
 use std::{array, slice};
 
 // The largest capacity, for which L's storage has no more than 240 entries.
 pub const LARGEST_CAPACITY: usize = 15;
+
+// So many bytes hold the card of the largest dimension.
+const LARGEST_CARD: usize = 3584;
 
 // Factors as the sample stores them: row by row, the row of L and then that of U from the diagonal on.
 #[derive(Clone, Copy)]
@@ -89,6 +94,25 @@ impl Buffers {
             l = l_left;
             u = u_left;
         }
+    }
+
+    // Writes the factors to a card and reads it into other buffers, with a list's unused contents. None where a call is refused, or another state comes back.
+    pub fn through_card(&self, factors: &Factors<'_>, list: u64) -> Option<Buffers> {
+        let state = LuMod {
+            n: factors.dimension,
+            capacity: factors.capacity,
+            counter: 0,
+        };
+        let mut card = [0; LARGEST_CARD];
+        let bytes = write_card(state, &self.l, &self.u, &mut card).ok()?;
+        let mut read = Buffers::unused(list);
+        let resumed = read_card(
+            factors.capacity,
+            &mut read.l,
+            &mut read.u,
+            card.get(..bytes)?,
+        );
+        (resumed == Ok(state)).then_some(read)
     }
 
     // Whether the active entries of L and U are others than those that are stored.

@@ -61,7 +61,7 @@ triangle_even (suc i) = omega (arith, triangle_even i, simp suc_pred at (triangl
 pub triangle_le : (c i : ℕ) → i ≤ suc c → i * (i - 1) ≤ i * c
 triangle_le c i h = mul-le-mul_left {m = i - 1} {n = c} i (omega arith)
 
-row_suc : (c i : ℕ) → i < c → row_start c (suc i) ≡ row_start c i + (c - i)
+pub row_suc : (c i : ℕ) → i < c → row_start c (suc i) ≡ row_start c i + (c - i)
 unfolding row_start
 row_suc c i h = omega (arith, triangle_suc i, triangle_le c i (omega arith), triangle_le c (suc i) (omega arith))
 
@@ -76,7 +76,7 @@ row_behind c i p h k =
     let a : row_start c (suc i) ≤ row_start c p = subst (λ (x : ℕ). row_start c (suc i) ≤ row_start c x) e (row_rising c (suc i) (p - suc i) (omega arith)) in
     omega (arith, row_suc c i (omega arith))
 
-rows_end : (c : ℕ) → row_start c c ≡ u_length c
+pub rows_end : (c : ℕ) → row_start c c ≡ u_length c
 unfolding row_start
 rows_end zero = refl
 rows_end (suc c) = rw suc_pred (omega (arith, triangle_even c))

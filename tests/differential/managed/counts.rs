@@ -89,7 +89,8 @@ impl Counts {
     }
 }
 
-fn join(counts: Vec<(String, u64)>) -> String {
+/// Counts in a line, each with what it counts.
+pub fn join(counts: Vec<(String, u64)>) -> String {
     let counts = counts
         .iter()
         .map(|(what, count)| format!("{what}: {count}"));

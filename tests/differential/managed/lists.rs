@@ -16,13 +16,13 @@ use crate::guards;
 use crate::places::{diagonal, l_column, l_place, u_column};
 use crate::random::Random;
 
-struct List {
+pub struct List {
     /// The dimension that pushes and removes lead to.
     target: usize,
     /// The largest such dimension.
     room: usize,
     profile: Profile,
-    sides: Sides,
+    pub sides: Sides,
     /// Whether no call has been made yet.
     at_start: bool,
 }
@@ -52,7 +52,7 @@ pub fn call_long_list(random: &mut Random, comparison: &mut Comparison) -> Resul
 }
 
 /// Mostly up to 12, sometimes up to 40.
-fn room(random: &mut Random) -> usize {
+pub fn room(random: &mut Random) -> usize {
     match random.below(64) {
         0 => 0,
         1 | 2 => 1,
@@ -62,7 +62,7 @@ fn room(random: &mut Random) -> usize {
 }
 
 impl List {
-    fn start(n: usize, room: usize, random: &mut Random) -> Self {
+    pub fn start(n: usize, room: usize, random: &mut Random) -> Self {
         let profile = Profile::choose(random);
         let capacity = room + random.pick(&[0, 0, 1, 2, 4]);
         let other = capacity + random.between(1, 5) as usize;
@@ -89,7 +89,7 @@ impl List {
         }
     }
 
-    fn step(&mut self, random: &mut Random, comparison: &mut Comparison) -> Result<(), End> {
+    pub fn step(&mut self, random: &mut Random, comparison: &mut Comparison) -> Result<(), End> {
         let mut call = self.next(random);
         self.lend_workspaces(&call, random);
         self.lend_data(&mut call, random);

@@ -11,7 +11,7 @@ const MAX: usize = usize::MAX;
 
 /// Capacities whose lengths exceed usize. For the last two the product is 2 and
 /// 0 in 64 bits.
-const TOO_LARGE: [usize; 7] = [
+pub const TOO_LARGE: [usize; 7] = [
     1 << 32,
     (1 << 32) + 1,
     1 << 33,
@@ -66,7 +66,7 @@ fn set_numbers(causes: &[Cause], instance: &mut Instance, random: &mut Random) {
 }
 
 /// `least` or more, often no more. 2^32 is 0 in 32 bits.
-fn beyond(least: usize, random: &mut Random) -> usize {
+pub fn beyond(least: usize, random: &mut Random) -> usize {
     let next = least.saturating_add(1);
     random.pick(&[least, least, next, least.max(1 << 32), MAX])
 }
@@ -114,7 +114,7 @@ fn set_other(cause: Cause, call: &mut Call, instance: &mut Instance, random: &mu
 }
 
 /// To less than `needed`, often to one less.
-fn shorten(buffer: &mut Buffer, needed: u128, random: &mut Random) {
+pub fn shorten(buffer: &mut Buffer, needed: u128, random: &mut Random) {
     if needed > 0 && buffer.len() as u128 >= needed {
         let needed = needed as usize;
         let any = random.below(needed);

@@ -1,0 +1,4 @@
+pub mod CardDemands
+pub mod Sessions
+pub mod Resumption
+pub mod Satisfiable

@@ -1,0 +1,3 @@
+pub mod CardCalls
+pub mod CardDemands
+pub mod Sessions

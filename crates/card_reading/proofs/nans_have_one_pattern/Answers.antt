@@ -1,0 +1,7 @@
+-- `nans_have_one_pattern`: the test of an entry, made of all.
+use Rattle.std.proofs.Common.{rules, tests}
+use Rattle.card_reading.proofs.Tests.{all_from_range}
+use Rattle.card_reading.proofs.nans_have_one_pattern.Goals as goal
+
+pub returns : goal.returns
+returns c = all_from_range c.args.count _ c.all.ensures.ran (λ x b q k. search (rules, tests))

@@ -1,0 +1,3 @@
+mod CardTests
+mod Passed
+mod Outcomes
