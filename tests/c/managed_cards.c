@@ -128,21 +128,28 @@ static void put_known_card(struct card *k, size_t row) {
     }
 }
 
-static void check_known_card(size_t row, size_t capacity, size_t beyond) {
-    const struct card_state *s = &known_cards[row].state;
-    const char *what = known_cards[row].what;
-    size_t length = known_cards[row].length;
+/* The state is written at a capacity to a buffer with bytes beyond, which becomes what is
+ * expected, and read at another. */
+static void write_and_read(const char *what, const struct card_state *s, size_t capacity,
+                           size_t other, struct card *card, const struct card *expected,
+                           size_t beyond) {
     struct memory m;
-    struct card card, expected;
-    mark_card(&card, beyond % 8, length + beyond);
-    expected = card;
-    put_known_card(&expected, row);
+    size_t length = card->length - beyond;
     prepare_storage(&m, capacity, beyond % 3);
     put_entries(&m, capacity, s);
-    check_written(make_write(what, s->n, capacity, s->counter), &m, &card, &expected, length);
-    card.length = length;
-    prepare_storage(&m, capacity, beyond % 3);
-    check_read(make_read(what, capacity), &m, &card, s);
+    check_written(make_write(what, s->n, capacity, s->counter), &m, card, expected, length);
+    card->length = length;
+    prepare_storage(&m, other, beyond % 3);
+    check_read(make_read(what, other), &m, card, s);
+}
+
+static void check_known_card(size_t row, size_t capacity, size_t beyond) {
+    const struct card_state *s = &known_cards[row].state;
+    struct card card, expected;
+    mark_card(&card, beyond % 8, known_cards[row].length + beyond);
+    expected = card;
+    put_known_card(&expected, row);
+    write_and_read(known_cards[row].what, s, capacity, capacity, &card, &expected, beyond);
 }
 
 static void known_bytes(void) {
@@ -177,19 +184,12 @@ static void fill_state(struct card_state *s, size_t n, size_t first) {
 static void check_state(const struct card_state *s, size_t capacity, size_t other,
                         size_t beyond) {
     char what[60];
-    struct memory m;
     struct card card, expected;
-    size_t length = blocks_at(s->n) * BLOCK_BYTES;
     snprintf(what, sizeof what, "dimension %zu, capacities %zu and %zu", s->n, capacity, other);
-    mark_card(&card, (capacity + other) % 8, length + beyond);
+    mark_card(&card, (capacity + other) % 8, blocks_at(s->n) * BLOCK_BYTES + beyond);
     expected = card;
     put_card(&expected, s);
-    prepare_storage(&m, capacity, beyond % 3);
-    put_entries(&m, capacity, s);
-    check_written(make_write(what, s->n, capacity, s->counter), &m, &card, &expected, length);
-    card.length = length;
-    prepare_storage(&m, other, beyond % 3);
-    check_read(make_read(what, other), &m, &card, s);
+    write_and_read(what, s, capacity, other, &card, &expected, beyond);
 }
 
 /* Dimensions 0 to 17, from capacities up to two beyond the dimension, where there are such,

@@ -18,6 +18,7 @@ mod managed;
 mod places;
 mod plant;
 mod random;
+mod sets;
 mod zero_based;
 
 use std::process::ExitCode;

@@ -27,7 +27,7 @@ pub record Wrote (v : StateValue) (l u : List Float) (bytes : List ℕ) : Type 0
   pub is_beginning : bytes ≡ take (card_length v.n) new
 
 pub record CardDemands : Type 0 where
-  -- The writer is refused nothing exactly where its storage passes and the buffer is as long as the writing.
+  -- The writer is refused nothing exactly where its storage passes and the buffer is at least as long as the writing.
   pub written : (v : StateValue) (l u card : ℕ) → (write_tests v l u card ≡ none) ↔ ((storage_tests v.n v.capacity l u ≡ none) × (card_length v.n ≤ card))
   -- What it wrote is the writing, and nothing beyond is touched; a refusal writes nothing.
   pub wrote : (v : StateValue) (l u : List Float) (bytes : List ℕ) → Wrote v l u bytes → bytes ≡ writing (held v l u)

@@ -129,7 +129,7 @@ pub count_bound : (n : ℕ) → n < 2 ^ 32 → block_count n < 2 ^ 64
 unfolding block_count
 count_bound n h = let l : n ≤ 2 ^ 32 - 1 = omega arith in omega (arith, mul-le-mul l l)
 
--- From 2^31 on no card has a length of 64 bits, and so none that is lent is long enough.
+-- From 2^31 on no card has a length that fits in 64 bits, and so none that is lent is long enough.
 pub dimension_bound : (n : ℕ) → card_length n < 2 ^ 64 → n < 2 ^ 31
 unfolding block_count
 dimension_bound n h = below_square n (2 ^ 31) (2 ^ 62) (omega arith) (omega arith)

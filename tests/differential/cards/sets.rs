@@ -9,6 +9,7 @@ use super::states::{any_capacity, any_instance, to_read, to_write};
 use super::words::State;
 use crate::calls::End;
 use crate::random::Random;
+use crate::sets::every_set;
 
 /// Dimensions and capacities that agree. A card of dimension 9 has no rest, and one of
 /// dimension 12 has five blocks.
@@ -32,10 +33,7 @@ const ROUNDS: usize = 8;
 pub fn call_all(random: &mut Random, comparison: &mut Comparison) -> Result<usize, End> {
     let mut sets = 0;
     for function in FUNCTIONS {
-        let causes = function.causes();
-        for set in 0..1 << causes.len() {
-            let chosen = causes.iter().enumerate().filter(|(k, _)| set >> k & 1 == 1);
-            let chosen: Vec<Cause> = chosen.map(|(_, &cause)| cause).collect();
+        for chosen in every_set(function.causes()) {
             call_set(function, &chosen, random, comparison)?;
             sets += 1;
         }

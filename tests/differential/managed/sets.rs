@@ -10,6 +10,7 @@ use crate::calls::End;
 use crate::data::Profile;
 use crate::factors::{fill_factors, replace_bad_diagonal};
 use crate::random::Random;
+use crate::sets::every_set;
 
 /// Dimensions and capacities that agree.
 const SHAPES: [(usize, usize); 9] = [
@@ -49,10 +50,7 @@ pub fn call_all(random: &mut Random, comparison: &mut Comparison) -> Result<usiz
     }
     let mut sets = 0;
     for function in FUNCTIONS {
-        let causes = function.causes();
-        for set in 0..1 << causes.len() {
-            let chosen = causes.iter().enumerate().filter(|(k, _)| set >> k & 1 == 1);
-            let chosen: Vec<Cause> = chosen.map(|(_, &cause)| cause).collect();
+        for chosen in every_set(&function.causes()) {
             if chosen.contains(&Cause::Dimension) && chosen.contains(&Cause::NoRoom) {
                 continue;
             }
