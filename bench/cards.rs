@@ -131,18 +131,20 @@ fn copy_with_sums(card: &mut Card) -> bool {
     true
 }
 
-/// A table of the nanoseconds, with each operation's as so many times those of a copy.
+/// A table of the nanoseconds, with each operation's as so many times those of either copy.
 pub fn print_table(all: &[Inputs]) {
-    println!("\n| card | n | bytes | ns | times a copy |\n|---|---:|---:|---:|---:|");
+    println!("\n| card | n | bytes | ns | times a copy | times a copy with sums |");
+    println!("|---|---:|---:|---:|---:|---:|");
     for inputs in all.iter().filter(|inputs| inputs.n >= LEAST_DIMENSION) {
         let mut card = Card::new(inputs);
         let times = measure(&mut card);
-        let copied = times[OPERATIONS.len() - 2];
+        let [.., copied, summed] = times;
         for ((name, _), time) in OPERATIONS.iter().zip(times) {
             let (n, bytes) = (card.n, card.bytes.len());
             println!(
-                "| {name} | {n} | {bytes} | {time:.0} | {:.2} |",
-                time / copied
+                "| {name} | {n} | {bytes} | {time:.0} | {:.2} | {:.2} |",
+                time / copied,
+                time / summed
             );
         }
     }

@@ -369,7 +369,9 @@ uint32_t lumod_ready(size_t n, size_t c, const double *l, size_t l_len,
  * A card consists of blocks of 512 bytes, numbered from 0. A block is 64 words
  * of 64 bits, each with its least significant byte first. The last one is the
  * check word: the sum of the 63 words before it and of the block's number,
- * modulo 2^64.
+ * modulo 2^64. In bytes this is the block's number and each of the 504 bytes
+ * before the check word times 256 to the power of its place in its word, added
+ * up modulo 2^64.
  *
  *     block 0           Word 0 is n, word 1 the number of all blocks, block 0
  *                       included, and word 2 the counter, a larger figure than

@@ -438,6 +438,7 @@ int main(void) {
     check_cards();
     check_bare_cards();
     check_large_card();
+    check_card_bytes();
     check_card_damage();
     check_card_refusals();
     return end_checks();

@@ -7,6 +7,8 @@ void check_cards(void);
 void check_bare_cards(void);
 /* A card whose blocks are more than a byte can count. */
 void check_large_card(void);
+/* The check of each block, and other bytes, by sums of bytes. */
+void check_card_bytes(void);
 /* Cards with other bytes, lengths, blocks and words. */
 void check_card_damage(void);
 /* Every refusal of the calls on cards, and their order. */

@@ -1,30 +1,23 @@
--- A buffer that holds the card of a state, and what it held behind it: where the card's words were put, zeros up to the end of the last block, and the check words.
+-- A buffer that holds the card of a state, and what it held behind it: where the card's words were put, zeros up to the end of the last block, and the check words with them.
 use mathlib.Core.Path.{◌≡◌, refl, sym, ap, ◌∙◌}
 use mathlib.Core.List.{List, ◌++◌}
 use Prim.Native.Nat.{ℕ, ◌+◌, ◌-◌, ◌*◌, ◌≤◌, ◌<◌}
 use native.Mathlib.Decide.{dec_lt}
 use native.Mathlib.Omega.{arith}
-use lib.ListN.{length, get_or, drop, replicate, length-append, length-replicate, get_or-append, get_or-replicate, get_or-eq_default}
+use lib.ListN.{length, get_or, drop, replicate, length-append, length-replicate, get_or-append, get_or-eq_default}
 use Rattle.machine.specs.Counter.{CountedState}
 use Rattle.card_format.specs.Writing.{entries, entry_count, block_count, card_length, rows_of_l, rows_of_u, header, words, card_word, card}
-use Rattle.card_format.specs.WordsPut.{WordsPut, ChecksPut}
+use Rattle.card_format.specs.WordsPut.{WordsFilled}
 use Rattle.card_format.proofs.Entries.{rows_of_l_length, entries_length, append_at}
 use Rattle.card_format.proofs.Blocks.{blocks_same}
-use Rattle.card_format.proofs.Put.{put_then, blocks_put}
-
-zero_at : (count k : ℕ) → get_or {A = ℕ} (replicate count 0) k 0 ≡ 0
-zero_at count k = go (dec_lt k count)
-  where
-    go : Dec (k < count) → get_or {A = ℕ} (replicate count 0) k 0 ≡ 0
-    go (yes l) = get_or-replicate count k 0 0 l
-    go (no l) = get_or-eq_default {A = ℕ} (replicate count 0) 0 {n = k} (omega (arith, length-replicate {A = ℕ} count 0))
+use Rattle.card_format.proofs.Put.{zero_at, filled_then, blocks_put}
 
 words_length : (P : CountedState ℕ) → length (words P) ≡ 63 + entry_count P.state.n
 unfolding words header
 words_length P = length-append (header P.state.n P.counter) (entries P.state) ∙ rw entries_length refl
 
-module _ (P : CountedState ℕ) (rest : ℕ) (fills : 63 + entry_count P.state.n + rest ≡ 63 * block_count P.state.n) {old filled new : List ℕ}
-    (h : WordsPut 0 (words P ++ replicate rest 0) old filled) (g : ChecksPut (block_count P.state.n) filled new) where
+module _ (P : CountedState ℕ) (rest : ℕ) (fills : 63 + entry_count P.state.n + rest ≡ 63 * block_count P.state.n) {old new : List ℕ}
+    (h : WordsFilled 0 (words P ++ replicate rest 0) old new) where
   filled_word : (p : ℕ) → get_or (words P ++ replicate rest 0) p 0 ≡ card_word P p
   filled_word p = go (dec_lt p (length (words P)))
     where
@@ -43,16 +36,16 @@ module _ (P : CountedState ℕ) (rest : ℕ) (fills : 63 + entry_count P.state.n
   card_put room =
       let m = block_count P.state.n in
       let count : length (words P ++ replicate rest 0) ≡ 63 * m = length-append (words P) (replicate rest 0) ∙ omega (arith, words_length P, length-replicate {A = ℕ} rest 0) in
-      blocks_put count h g room
+      blocks_put m count h room
       ∙ ap (λ (front : List ℕ). front ++ drop (card_length P.state.n) old) (blocks_same m (λ p. get_or (words P ++ replicate rest 0) p 0) (card_word P) (λ p l. filled_word p))
 
 -- The parts of a card, one after another: header, L, U, zeros.
-pub parts_put : (P : CountedState ℕ) (rest : ℕ) {a b c d e : List ℕ} → WordsPut 0 (header P.state.n P.counter) a b → WordsPut 63 (rows_of_l P.state.n P.state.L) b c
-    → WordsPut (63 + P.state.n * P.state.n) (rows_of_u P.state.n P.state.U) c d → WordsPut (63 + entry_count P.state.n) (replicate rest 0) d e
-    → WordsPut 0 (words P ++ replicate rest 0) a e
+pub parts_put : (P : CountedState ℕ) (rest : ℕ) {a b c d e : List ℕ} → WordsFilled 0 (header P.state.n P.counter) a b → WordsFilled 63 (rows_of_l P.state.n P.state.L) b c
+    → WordsFilled (63 + P.state.n * P.state.n) (rows_of_u P.state.n P.state.U) c d → WordsFilled (63 + entry_count P.state.n) (replicate rest 0) d e
+    → WordsFilled 0 (words P ++ replicate rest 0) a e
 unfolding words header entries
 parts_put P rest first l u zeros =
     let n = P.state.n in
     let l_long : 63 + n * n ≡ 63 + length (rows_of_l n P.state.L) = omega (arith, rows_of_l_length n P.state.L) in
     let long : 63 + entry_count n ≡ 0 + length (header n P.counter ++ entries P.state) = omega (arith, words_length P) in
-    put_then (put_then first (put_then l (rw l_long at u))) (rw long at zeros)
+    filled_then (filled_then first (filled_then l (rw l_long at u))) (rw long at zeros)

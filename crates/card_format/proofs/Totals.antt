@@ -1,8 +1,8 @@
--- Laws of totals: equal terms, one changed term, and a running sum that wraps.
-use mathlib.Core.Path.{◌≡◌, refl}
+-- Laws of totals: equal terms, a total cut in two and in groups, one changed term, and a running sum that wraps.
+use mathlib.Core.Path.{◌≡◌, refl, ◌∙◌}
 use mathlib.Core.Logic.{◌≢◌, ⊎_elim}
-use Prim.Native.Nat.{ℕ, zero, suc, ◌+◌, ◌%◌, ◌^◌, ◌<◌}
-use native.Mathlib.Nat.{eq-or-lt_of_le, le_of_suc-le-suc}
+use Prim.Native.Nat.{ℕ, zero, suc, ◌+◌, ◌*◌, ◌%◌, ◌^◌, ◌<◌}
+use native.Mathlib.Nat.{add-zero, add-suc, mul-zero, mul-suc, eq-or-lt_of_le, le_of_suc-le-suc}
 use native.Mathlib.Omega.{arith}
 use Rattle.card_format.specs.Blocks.{total}
 
@@ -10,6 +10,17 @@ pub total_same : (k : ℕ) (f g : ℕ → ℕ) → ((i : ℕ) → i < k → f i 
 unfolding total
 total_same zero f g h = refl
 total_same (suc k) f g h = λ t. total_same k f g (λ i l. h i (omega arith)) t + h k (omega arith) t
+
+pub total_split : (a b : ℕ) (f : ℕ → ℕ) → total (a + b) f ≡ total a f + total b (λ i. f (a + i))
+unfolding total
+total_split a zero f = rw add-zero (omega arith)
+total_split a (suc b) f = rw add-suc (omega (arith, total_split a b f))
+
+-- w terms to a group
+pub total_groups : (w m : ℕ) (f : ℕ → ℕ) → total (w * m) f ≡ total m (λ k. total w (λ i. f (w * k + i)))
+unfolding total
+total_groups w zero f = rw mul-zero refl
+total_groups w (suc m) f = rw mul-suc (total_split (w * m) w f ∙ omega (arith, total_groups w m f))
 
 -- what a total with one other term comes to
 pub total_changed : (k j : ℕ) (f g : ℕ → ℕ) → j < k → ((i : ℕ) → i < k → i ≢ j → f i ≡ g i) → total k f + g j ≡ total k g + f j

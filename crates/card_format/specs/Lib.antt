@@ -3,4 +3,5 @@ pub mod Writing
 pub mod Reading
 pub mod Answers
 pub mod CardLaws
+pub mod ByteSums
 pub mod WordsPut

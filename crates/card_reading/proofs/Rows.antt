@@ -6,25 +6,20 @@ use native.Mathlib.Nat.{add_assoc}
 use native.Mathlib.Omega.{arith}
 use borrow.Author.Count.{below_more}
 use borrow.Rule.Slice.PartMut.{put_mid}
-use lib.Ieee.{Float, binary64, of_bits}
+use lib.Ieee.{Float}
 use lib.ListN.{length}
-use Rattle.numbers.specs.NumberForm.{NumberForm, ieee}
 use Rattle.machine.specs.Tables.{tabulate}
 use Rattle.machine.specs.Products.{entry}
-use Rattle.machine.proofs.Choice.{tabulate_at, tabulate_length}
 use Rattle.storage.specs.Places.{u_length, l_index, u_index}
 use Rattle.storage.specs.Views.{Kept}
 use Rattle.storage.proofs.Kept.{kept_then, kept_more}
 use Rattle.storage.proofs.Places.{row_before, l_index_injective, u_index_injective, u_index_along}
 use Rattle.ranges.specs.Written.{Written}
-use Rattle.ranges.proofs.Parts.{part, part_long, part_written}
+use Rattle.ranges.proofs.Parts.{part}
 use Rattle.ranges.proofs.RowParts.{part_fits}
-use Rattle.ranges.proofs.Vectors.{written_at}
-use Rattle.card_format.specs.Blocks.{word_in, numbered}
+use Rattle.ranges.proofs.Vectors.{written_as, written_at}
 use Rattle.card_reading.specs.Read.{URead}
-
-abbrev N : NumberForm
-N = ieee binary64
+use Rattle.card_reading.proofs.Runs.{N, value_of, part_tabulated}
 
 -- the column from which on a row is stored, where an entry stands at capacity c, and how many places there are
 pub record Layout : Type 0 where
@@ -57,10 +52,6 @@ layout_u = record {
   one_row = λ c i j p q a h b g e. (u_index_injective c i j p q a h b g e).0;
   within = λ c i h. part_fits c i i (c - i) (u_index c i i) (omega arith) (omega arith) refl (u_length c) h (omega arith);
 }
-
--- the double whose bits are the word numbered p
-abbrev pub value_of : List ℕ → ℕ → Float
-value_of card p = of_bits binary64 (numbered (word_in card) p)
 
 module _ (layout : Layout) (c n number : ℕ) (card : List ℕ) where
   -- row i of a buffer holds the card's words from a number on, where the entries stand as at capacity n
@@ -105,16 +96,13 @@ module _ {layout : Layout} {c n number : ℕ} {card : List ℕ} {row : ℕ} {old
       → start ≡ layout.place c row (layout.first row) → stop ≡ start + (n - layout.first row) → at ≡ number + layout.place n row (layout.first row)
       → RowsRead layout c n number card (row + 1) old (put_mid start (stop - start) mid ys)
   row_read {start} {stop} {at} {ys} e fits below size is_start is_stop is_at =
-      let count = n - layout.first row in
       let room : stop ≤ length mid = omega (arith, layout.within c row (omega arith)) in
-      let long : length (part N start stop mid) ≡ count = omega (arith, part_long N start stop mid (omega arith) room) in
-      let listed = rw long at e in
       row_more fits
       (written_at N (λ k h. sym (layout.along c row k (omega arith) ∙ ap (λ (p : ℕ). p + k) (sym is_start)))
-      (part_written N start stop count mid ys is_stop room (rw listed (tabulate_length count _))
-      (λ k h.
+      (written_as N _ (λ k h.
       let number_is : at + k ≡ number + layout.place n row (layout.first row + k) = omega (arith, layout.along n row k (omega arith)) in
-      rw listed (tabulate_at count _ N.absent k h) ∙ ap (value_of card) number_is)))
+      ap (value_of card) number_is)
+      (part_tabulated start stop (n - layout.first row) is_stop room e)))
 
 -- all rows of U, whose words stand behind those of L
 pub u_read : {c n : ℕ} {card : List ℕ} {u u' : List Float} → RowsRead layout_u c n (63 + n * n) card n u u' → URead c n card u u'

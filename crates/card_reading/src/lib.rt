@@ -3,7 +3,7 @@
 
 ghost use Rattle.std.specs.Prelude.{◌≡◌, ◌&&◌, ◌+◌, ◌*◌, ◌/◌, ◌^◌, ◌≤◌, ◌<◌, not, length};
 ghost use Rattle.std.specs.Float.{binary64};
-ghost use Rattle.std.specs.Float.Ieee.{of_bits};
+ghost use Rattle.std.specs.Float.Ieee.{of_bits, nan_bits};
 ghost use Rattle.machine.specs.Tables.{tabulate};
 ghost use Rattle.machine.specs.Readiness.{all_below};
 ghost use Rattle.storage.specs.Places.{u_length};
@@ -51,20 +51,47 @@ fn are_zero(card: &[u8], first: usize, count: usize) -> bool
     (0..count).all(|k| numbered_word(card, first + k) == 0)
 }
 
+// Whether a word is a NaN's.
+#[tactic(auto, using(crate::proofs::Tests::nan_is))]
+fn is_nan(word: u64) -> bool
+    ensures { result ≡ nan_bits binary64 word }
+{
+    word % SIGN > INFINITY
+}
+
 // Whether a word is a NaN's with another pattern than 7FF8000000000000.
-#[tactic(auto, using(crate::proofs::Tests::other_nan_is))]
 fn is_other_nan(word: u64) -> bool
     ensures { result ≡ other_nan word }
 {
-    word % SIGN > INFINITY && word != NAN
+    is_nan(word) && word != NAN
 }
 
-// Whether the first `count` entries have no NaN with another pattern.
+// Whether a word of a block, its check word apart, is a NaN's. It looks at every one, also behind one that it has found, by which the loop needs no branch.
+fn has_nan(card: &[u8], block: usize) -> bool
+    requires { 512 * block + 512 ≤ length card.now }
+    ensures { result ≡ not (all_below 63 (λ k. not (nan_bits binary64 (word_in card.now block k)))) }
+{
+    let mut found = false;
+    for k in 0..63 {
+        found |= is_nan(word_at(card, 512 * block + 8 * k));
+    }
+    found
+}
+
+// Whether the first `count` words of a block have no NaN with another pattern. Most blocks have no NaN at all.
+fn has_one_pattern(card: &[u8], block: usize, count: usize) -> bool
+    requires { (count ≤ 63) × (512 * block + 512 ≤ length card.now) }
+    ensures { result ≡ all_below count (λ k. not (other_nan (word_in card.now block k))) }
+{
+    !has_nan(card, block) || (0..count).all(|k| !is_other_nan(word_at(card, 512 * block + 8 * k)))
+}
+
+// Whether the first `count` entries, whose words begin with block 1, have no NaN with another pattern.
 fn nans_have_one_pattern(card: &[u8], count: usize) -> bool
     requires { 63 + count ≤ 63 * (length card.now / 512) }
     ensures { result ≡ all_below count (λ q. not (other_nan (entry_word (word_in card.now) q))) }
 {
-    (0..count).all(|q| !is_other_nan(numbered_word(card, 63 + q)))
+    (0..(count + 62) / 63).all(|b| has_one_pattern(card, b + 1, (count - 63 * b).min(63)))
 }
 
 // Whether word 2 is a figure of the counter, and words 3 to 62 are zero.
@@ -100,13 +127,28 @@ pub fn in_format(card: &[u8]) -> bool
         && entries_in_format(card, n)
 }
 
-// values[k] takes the double whose bits are the word numbered first + k, for each of `values`.
+// values[k] takes the double whose bits are word `word` + k of a block, for each of `values`.
+fn read_run(values: &mut [f64], card: &[u8], block: usize, word: usize)
+    requires { (word + length values.old ≤ 63) × (512 * block + 512 ≤ length card.now) }
+    ensures { values.new ≡ tabulate (length values.old) (λ k. of_bits binary64 (word_in card.now block (word + k))) }
+{
+    for (k, value) in values.iter_mut().enumerate() {
+        *value = f64_from_bits_with_nan(word_at(card, 512 * block + 8 * (word + k)));
+    }
+}
+
+// values[k] takes the double whose bits are the word numbered first + k, for each of `values`: as many at a time as stand in one block.
 fn read_values(values: &mut [f64], card: &[u8], first: usize)
     requires { first + length values.old ≤ 63 * (length card.now / 512) }
     ensures { values.new ≡ tabulate (length values.old) (λ k. of_bits binary64 (numbered (word_in card.now) (first + k))) }
 {
-    for (k, value) in values.iter_mut().enumerate() {
-        *value = f64_from_bits_with_nan(numbered_word(card, first + k));
+    let mut k = 0;
+    while k < values.len() {
+        let block = (first + k) / 63;
+        let word = (first + k) % 63;
+        let run = (63 - word).min(values.len() - k);
+        read_run(&mut values[k..k + run], card, block, word);
+        k += run;
     }
 }
 

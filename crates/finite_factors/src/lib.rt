@@ -52,7 +52,7 @@ fn finite_each(values: &[f64]) -> bool
 }
 
 // Whether the values are all finite.
-fn finite_range(values: &[f64]) -> bool
+pub fn finite_range(values: &[f64]) -> bool
     ensures { result ≡ all_below (length values.now) (λ k. finite (entry (ieee binary64) values.now k)) }
 {
     let fours = values.len() - values.len() % 4;

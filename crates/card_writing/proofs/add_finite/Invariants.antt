@@ -1,0 +1,6 @@
+-- `add_finite`: the values so far.
+use Rattle.card_writing.proofs.Runs.{ValuesAdded}
+use Rattle.card_writing.proofs.add_finite.Given as goal
+
+abbrev pub invariant-loop-k : goal.invariant-loop-k
+invariant-loop-k l = ValuesAdded l.block l.word l.values l.k l.initial.card l.card l.sum
