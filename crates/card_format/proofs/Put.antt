@@ -1,5 +1,5 @@
--- Laws of words that are put into a list of bytes: one word, then words one after another, with the check words of the blocks that they fill, the sum in hand meanwhile, and
--- a buffer that holds the blocks.
+-- Laws of words that are put into a list of bytes: one word, then words one after another, with the check words of the blocks that they fill; the running sum of a
+-- block; and a buffer that holds the blocks.
 use mathlib.Core.Path.{◌≡◌, refl, sym, ap, ◌∙◌, subst}
 use mathlib.Core.List.{List, [], ◌∷◌, ◌++◌, append-nil}
 use mathlib.Core.Logic.{◌⊎◌, inl, inr, ⊎_elim}
@@ -168,7 +168,7 @@ pub kept_behind : {first : ℕ} {ws : List ℕ} {old new : List ℕ} (m : ℕ) �
     → get_or new q 0 ≡ get_or old q 0
 kept_behind {first} m h r q l = h.kept q (λ i t. inr (omega (arith, place_room (first + i) m (omega arith)))) (λ b s t. inr (omega arith))
 
--- ---- the sum in hand
+-- ---- the running sum
 
 -- its words among those of a block
 module _ (b k : ℕ) {ws old new : List ℕ} (h : WordsPut (63 * b + k) ws old new) (room : k + length ws ≤ 63) where
@@ -190,7 +190,7 @@ module _ (b k : ℕ) {ws old new : List ℕ} (h : WordsPut (63 * b + k) ws old n
         total_same (length ws) (λ i. word_in new b (k + i)) (λ i. get_or ws i 0) own_word,
       )
 
--- the sum in hand where block b is next: its number
+-- the running sum where block b is next: its number
 pub sum_at_start : (bytes : List ℕ) (b : ℕ) → b < 2 ^ 64 → sum_before bytes (63 * b) ≡ b
 unfolding total
 sum_at_start bytes b l =

@@ -34,10 +34,10 @@ WordsPut first words = WordsAndChecksPut first words 0 0
 abbrev pub WordsFilled : ℕ → List ℕ → List ℕ → List ℕ → Type 0
 WordsFilled first words = WordsAndChecksPut first words (first / 63) ((first + length words) / 63)
 
--- the sum in hand when the first k words of block b have been added: the check word where these are all 63
+-- the running sum of block b: of its number and its first k words, which is the check word where these are all 63
 abbrev pub partial_sum : List ℕ → ℕ → ℕ → ℕ
 partial_sum bytes b k = (b + total k (word_in bytes b)) % 2 ^ 64
 
--- the sum in hand before the word numbered p
+-- the running sum before the word numbered p
 abbrev pub sum_before : List ℕ → ℕ → ℕ
 sum_before bytes p = partial_sum bytes (p / 63) (p % 63)

@@ -34,11 +34,11 @@ use Rattle.card_reading.specs.Read.{check_refusal}
 pub nan_is : (w : ℕ) → nan_bits binary64 w ≡ ltb 0x7FF0_0000_0000_0000 (w % 0x8000_0000_0000_0000)
 nan_is = nan_bits_above binary64
 
--- where none of 63 words is a NaN's, none of the first is another NaN's
-pub no_nan : (word : ℕ → ℕ) (count : ℕ) → count ≤ 63 → all_below 63 (λ k. not (nan_bits binary64 (word k))) ≡ true → all_below count (λ k. not (other_nan (word k))) ≡ true
-no_nan word count few none =
+-- where none of so many words is a NaN's, none of the first is another NaN's
+pub no_nan : (word : ℕ → ℕ) (all count : ℕ) → count ≤ all → all_below all (λ k. not (nan_bits binary64 (word k))) ≡ true → all_below count (λ k. not (other_nan (word k))) ≡ true
+no_nan word all count few none =
     true_below count _
-    (λ k h. ap (λ (nan : Bool). not (nan && not (eqb (word k) 0x7FF8_0000_0000_0000))) (not-true (nan_bits binary64 (word k)) (holds_below 63 _ none k (omega arith))))
+    (λ k h. ap (λ (nan : Bool). not (nan && not (eqb (word k) 0x7FF8_0000_0000_0000))) (not-true (nan_bits binary64 (word k)) (holds_below all _ none k (omega arith))))
 
 -- one more word, where `before` says that none of those before it is a NaN's
 pub found_more : (before nan : Bool) → (not before || nan) ≡ not (before && not nan)

@@ -66,7 +66,7 @@ fn is_other_nan(word: u64) -> bool
     is_nan(word) && word != NAN
 }
 
-// Whether a word of a block, its check word apart, is a NaN's. It looks at every one, also behind one that it has found, by which the loop needs no branch.
+// Whether a word of a block, its check word apart, is a NaN's. It looks at all 63, also behind one that it has found, so that the loop has no branch.
 fn has_nan(card: &[u8], block: usize) -> bool
     requires { 512 * block + 512 ≤ length card.now }
     ensures { result ≡ not (all_below 63 (λ k. not (nan_bits binary64 (word_in card.now block k)))) }

@@ -6,7 +6,6 @@ use native.Mathlib.Nat.{add-zero, add_assoc}
 use native.Mathlib.Numerals.{add-one}
 use native.Mathlib.Omega.{arith}
 use mathlib.Core.List.{map}
-use lib.Ieee.{Float, nan, binary64, to_bits}
 use lib.ListN.{length, get_or, take, drop, replicate}
 use lib.Seq.{take-suc, take-add, take-length}
 use Rattle.std.proofs.lemmas.List.{map-append, replicate-append-replicate, length-map, length-take-le, length-replicate}
@@ -15,32 +14,33 @@ use Rattle.card_format.specs.Writing.{rows}
 use Rattle.card_format.specs.WordsPut.{WordPut, place, WordsPut, WordsFilled, partial_sum}
 use Rattle.card_format.proofs.Put.{none_put, put_more, filled_then}
 
--- the first k values put from a word of a block on, and the sum in hand with them
-abbrev pub ValuesAdded : (block word : ℕ) (values : List Float) (k : ℕ) (old new : List ℕ) (sum : ℕ) → Type 0
-ValuesAdded block word values k old new sum =
-    WordsPut (63 * block + word) (map (to_bits binary64) (take k values)) old new × (sum ≡ partial_sum new block (word + k))
+-- the words of the first k values put from a word of a block on, and the running sum with them
+abbrev pub ValuesAdded : {A : Type 0} (f : A → ℕ) (block word : ℕ) (values : List A) (k : ℕ) (old new : List ℕ) (sum : ℕ) → Type 0
+ValuesAdded f block word values k old new sum =
+    WordsPut (63 * block + word) (map f (take k values)) old new × (sum ≡ partial_sum new block (word + k))
 
-pub none_added : (block word : ℕ) (values : List Float) (old : List ℕ) {sum : ℕ} → sum ≡ partial_sum old block word → ValuesAdded block word values 0 old old sum
-none_added block word values old e = (none_put (63 * block + word) 0 old, rw add-zero e)
+pub none_added : {A : Type 0} (f : A → ℕ) (block word : ℕ) (values : List A) (old : List ℕ) {sum : ℕ} → sum ≡ partial_sum old block word
+    → ValuesAdded f block word values 0 old old sum
+none_added f block word values old e = (none_put (63 * block + word) 0 old, rw add-zero e)
 
 -- one more value, by `add_word`
-pub value_added : (block word k : ℕ) (values : List Float) {sum more : ℕ} {old mid new : List ℕ} → k < length values → ValuesAdded block word values k old mid sum
-    → WordPut (place (63 * block + (word + k))) (to_bits binary64 (get_or values k nan)) mid new → more ≡ partial_sum new block (word + k + 1)
-    → ValuesAdded block word values (k + 1) old new more
-value_added block word k values {sum} {more} {old} {mid} {new} h before one e =
-    let put = map (to_bits binary64) (take k values) in
-    let w = to_bits binary64 (get_or values k nan) in
-    let long : length put ≡ k = length-map (take k values) (to_bits binary64) ∙ length-take-le k values (omega arith) in
+pub value_added : {A : Type 0} (f : A → ℕ) (d : A) (block word k : ℕ) (values : List A) {sum more : ℕ} {old mid new : List ℕ} → k < length values
+    → ValuesAdded f block word values k old mid sum → WordPut (place (63 * block + (word + k))) (f (get_or values k d)) mid new
+    → more ≡ partial_sum new block (word + k + 1) → ValuesAdded f block word values (k + 1) old new more
+value_added f d block word k values {sum} {more} {old} {mid} {new} h before one e =
+    let put = map f (take k values) in
+    let w = f (get_or values k d) in
+    let long : length put ≡ k = length-map (take k values) f ∙ length-take-le k values (omega arith) in
     let at : 63 * block + (word + k) ≡ 63 * block + word + length put = omega (arith, long) in
-    let words : put ++ w ∷ [] ≡ map (to_bits binary64) (take (k + 1) values) =
-    sym (rw add-one (ap (map (to_bits binary64)) (take-suc values k nan h) ∙ map-append (to_bits binary64) (take k values) (get_or values k nan ∷ []))) in
+    let words : put ++ w ∷ [] ≡ map f (take (k + 1) values) =
+    sym (rw add-one (ap (map f) (take-suc values k d h) ∙ map-append f (take k values) (get_or values k d ∷ []))) in
     (subst (λ (ws : List ℕ). WordsPut (63 * block + word) ws old new) words (put_more before.0 (rw at at one)), rw (← add_assoc) e)
 
 -- all of them
-pub all_added : (block word : ℕ) (values : List Float) {k sum : ℕ} {old new : List ℕ} → k ≡ length values → ValuesAdded block word values k old new sum
-    → WordsPut (63 * block + word) (map (to_bits binary64) values) old new × (sum ≡ partial_sum new block (word + length values))
-all_added block word values {k} {sum} {old} {new} e added =
-    let all : ValuesAdded block word values (length values) old new sum = rw e at added in
+pub all_added : {A : Type 0} (f : A → ℕ) (block word : ℕ) (values : List A) {k sum : ℕ} {old new : List ℕ} → k ≡ length values
+    → ValuesAdded f block word values k old new sum → WordsPut (63 * block + word) (map f values) old new × (sum ≡ partial_sum new block (word + length values))
+all_added f block word values {k} {sum} {old} {new} e added =
+    let all : ValuesAdded f block word values (length values) old new sum = rw e at added in
     (rw take-length at all.0, all.1)
 
 -- zeros so far and one more

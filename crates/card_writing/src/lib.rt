@@ -1,5 +1,5 @@
-// The writing of a state to a slice of bytes: header, rows, and zeros up to the end of the last block. The sum of the block begun goes from call to call: it takes
-// each word as it is put, and becomes the block's check word once the block is full.
+// The writing of a state to a slice of bytes: header, rows, and zeros up to the end of the last block. A block's running sum goes from call to call: each word is
+// added as it is put, and the sum is the check word once the block is full.
 #![tactic(auto)]
 
 ghost use Rattle.std.specs.Prelude.{◌≡◌, true, ◌+◌, ◌*◌, ◌/◌, ◌≤◌, ◌<◌, ◌++◌, length, drop, map, replicate};
@@ -21,7 +21,7 @@ use matrices::dense_l::DenseL;
 use matrices::packed_u::PackedU;
 use std::num::f64_to_bits_with_nan;
 
-// Puts a word of a block, and answers the sum in hand with it: every word that counts for a check is put together once, and added once.
+// Puts a word of a block, and answers the running sum with it: every word that counts for a check is put together once, and added once.
 fn add_word(card: &mut [u8], block: usize, word: usize, bits: u64, sum: u64) -> u64
     requires in_block { (word < 63) × (512 * block + 512 ≤ length card.old) }
     requires sum { sum ≡ partial_sum card.old block word }
@@ -32,7 +32,7 @@ fn add_word(card: &mut [u8], block: usize, word: usize, bits: u64, sum: u64) -> 
     sum.wrapping_add(bits)
 }
 
-// Adds the words of the values, from a word of a block on; a NaN's is always 7FF8000000000000. Answers the sum in hand with them.
+// Adds the words of the values, from a word of a block on; a NaN's is always 7FF8000000000000. Answers the running sum with them.
 fn add_values(card: &mut [u8], block: usize, word: usize, values: &[f64], sum: u64) -> u64
     requires in_block { (word + length values.now ≤ 63) × (512 * block + 512 ≤ length card.old) }
     requires sum { sum ≡ partial_sum card.old block word }
@@ -75,7 +75,7 @@ fn put_words(card: &mut [u8], block: usize, word: usize, values: &[f64], sum: u6
     }
 }
 
-// The same, and the check word where the values fill the block. Answers the sum in hand before the next word.
+// The same, and the check word where the values fill the block. Answers the running sum before the next word.
 fn put_run(card: &mut [u8], block: usize, word: usize, values: &[f64], sum: u64) -> u64
     requires in_block { (word < 63) × (word + length values.now ≤ 63) × (512 * block + 512 ≤ length card.old) }
     requires sum { sum ≡ partial_sum card.old block word }

@@ -1,4 +1,4 @@
--- `put_l`: the rows so far, and the sum in hand behind them.
+-- `put_l`: the rows so far, and the running sum behind them.
 use mathlib.Core.Path.{◌≡◌}
 use Prim.Native.Nat.{◌+◌, ◌*◌}
 use lib.Ieee.{binary64, to_bits}

@@ -1,4 +1,4 @@
--- `put_u`: the rows so far, where the next begins, and the sum in hand there.
+-- `put_u`: the rows so far, where the next begins, and the running sum there.
 use mathlib.Core.Path.{◌≡◌}
 use Prim.Native.Nat.{◌+◌, ◌-◌}
 use lib.Ieee.{binary64, to_bits}
