@@ -14,6 +14,7 @@
 #include "managed_cards.h"
 #include "managed_counter.h"
 #include "managed_data.h"
+#include "managed_flags.h"
 #include "managed_kept_matrix.h"
 #include "managed_ready.h"
 #include "managed_refusals.h"
@@ -433,6 +434,7 @@ int main(void) {
     check_kept_matrix();
     check_counter();
     check_data();
+    check_flags();
     check_readiness();
     check_managed_refusals();
     check_cards();

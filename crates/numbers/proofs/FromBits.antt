@@ -1,15 +1,16 @@
 -- Absolute value and finiteness from the bits, in either format: a pattern without its sign's bit is that of the absolute value, and a value is finite
 -- exactly if the exponent's field is not all ones.
-use mathlib.Core.Path.{◌≡◌, refl, sym, ap, ◌∙◌}
+use mathlib.Core.Path.{◌≡◌, refl, sym, ap, ◌∙◌, subst}
 use Prim.Native.Nat.{ℕ, zero, suc, ◌+◌, ◌-◌, ◌/◌, ◌%◌}
 use native.Mathlib.Nat.{mod-lt, mod-mod, mod-mod_of_dvd, dvd-mul_right, mul-pos, zero-lt-suc}
-use mathlib.Core.Bool.{Bool, true, false, not, cond}
+use mathlib.Core.Bool.{Bool, true, false, not, cond, true≢false}
 use lib.Dec.{T as So, leb, eqb}
 use lib.Arith.{lt→nleb}
 use lib.Pow.{pow_pos}
-use lib.Ieee.{Float, nan, inf, Format, binary32, binary64, prec, low, odd, fits, hid, ones, top, of_fields, of_bits, to_bits}
-use lib.Ieee.Bits.{is_false, of_bits-to_bits}
+use lib.Ieee.{Float, nan, inf, fin, Format, binary32, binary64, prec, low, odd, fits, is_nan, ne, hid, ones, top, of_fields, of_bits, nan_bits, to_bits}
+use lib.Ieee.Bits.{is_false, of_bits-to_bits, nan_bits_is}
 use lib.Ieee.Scale.{finite}
+use lib.Ieee.Compare.{differs_from_itself, nan_differs}
 use Rattle.numbers.specs.NumberForm.{absolute}
 
 pub odd_absolute : (d : ℕ) (s : Bool) (q k l : ℕ) → absolute (odd d s q k l) ≡ odd d false q k l
@@ -44,6 +45,26 @@ unsigned f b =
 pub absolute_of_bits : (f : Format) (x : Float) → So (fits f x) → of_bits f (to_bits f x % top f) ≡ absolute x
 absolute_of_bits f x h = unsigned f (to_bits f x) ∙ ap absolute (of_bits-to_bits f x h)
 
+absolute_nan : (x : Float) → is_nan (absolute x) ≡ is_nan x
+unfolding absolute is_nan
+absolute_nan nan = refl
+absolute_nan (inf s) = refl
+absolute_nan (fin s m e) = refl
+
+pub absolute_bits_number : (f : Format) (x : Float) → So (fits f x) → So (not (is_nan x)) → So (not (nan_bits f (to_bits f x % top f)))
+absolute_bits_number f x h n = subst (λ (b : Bool). So (not b)) (sym (nan_bits_is f (to_bits f x % top f) ∙ ap is_nan (absolute_of_bits f x h) ∙ absolute_nan x)) n
+
+-- the test `x != x`
+pub nan_absolute : (x : Float) → ne x x ≡ true → x ≡ absolute x
+unfolding absolute
+nan_absolute x e = subst (λ (z : Float). z ≡ absolute z) (sym (differs_from_itself x (subst So (sym e) tt))) refl
+
+pub is_number : (x : Float) → ne x x ≡ false → So (not (is_nan x))
+unfolding is_nan
+is_number nan e = absurd (true≢false (sym nan_differs ∙ e))
+is_number (inf s) e = tt
+is_number (fin s m e) d = tt
+
 -- ---- finiteness from the bits: the exponent's field is not all ones
 odd_finite : (d : ℕ) (s : Bool) (q k l : ℕ) → finite (odd d s q k l) ≡ true
 unfolding odd
@@ -66,3 +87,6 @@ unfolding of_bits
 finite_of_bits f x h =
     let b = to_bits f x in
     sym (fields_finite f (leb (top f) b) (b % top f / hid f) (b % hid f)) ∙ ap finite (of_bits-to_bits f x h)
+
+pub nan_not_finite : (x : Float) → ne x x ≡ true → false ≡ finite x
+nan_not_finite x e = subst (λ (z : Float). false ≡ finite z) (sym (differs_from_itself x (subst So (sym e) tt))) refl
