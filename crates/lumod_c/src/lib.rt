@@ -81,7 +81,7 @@ pub extern "C" fn Usolve(mode: i32, maxmod: i32, n: i32, u: &[f64], y: &mut [f64
 }
 
 // What LUmod does.
-#[tactic(auto, unfolding(zero_based_tests::specs::Refusals::update_lacks_room))]
+#[tactic(auto, using(zero_based_tests::proofs::Tests::update_room))]
 fn update(
     mode: i32,
     maxmod: i32,
@@ -120,7 +120,7 @@ fn update(
 }
 
 // What Lprod does. A mode is a number of the C interface: 1 is plain, any other transposed.
-#[tactic(auto, unfolding(zero_based_tests::specs::Refusals::product_lacks_room, crate::specs::Outcome::product_of))]
+#[tactic(auto, using(zero_based_tests::proofs::Tests::product_room), unfolding(crate::specs::Outcome::product_of))]
 fn product(
     mode: i32,
     maxmod: i32,
@@ -152,7 +152,7 @@ fn product(
 
 // What Usolve does. A mode is a number of the C interface: 1 is plain, any other transposed.
 // It begins as Lprod does: a function for both beginnings would need a contract and answers longer than they are.
-#[tactic(auto, unfolding(zero_based_tests::specs::Refusals::solve_lacks_room, crate::specs::Outcome::solve_of))]
+#[tactic(auto, using(zero_based_tests::proofs::Tests::solve_room), unfolding(crate::specs::Outcome::solve_of))]
 fn solve(mode: i32, maxmod: i32, n: i32, u: &[f64], y: &mut [f64]) -> Result<(), Refusal>
     ensures { SolveOutcome (ieee binary64) mode maxmod n u.now y.old y.new (outcome_number result) }
 {
