@@ -38,7 +38,7 @@ impl TryFrom<u8> for Function {
     }
 }
 
-// A call's function, how much of each buffer it lends, its dimension and capacity, and its data besides the two vectors.
+// A call's function, how much of each buffer and of its two vectors it lends, its dimension and capacity, and its data besides the vectors.
 #[derive(Clone, Copy)]
 pub struct Call {
     pub function: Function,
@@ -47,6 +47,8 @@ pub struct Call {
     pub y: u8,
     pub z: u8,
     pub w: u8,
+    pub first: u8,
+    pub second: u8,
     pub state: LuMod,
     pub row: RowIndex,
     pub column: ColumnIndex,
@@ -59,14 +61,21 @@ fn lend(buffer: &mut [f64; 256], length: u8) -> &mut [f64] {
 }
 
 impl Call {
-    // Makes the call, with its buffers at the lengths that the record says.
-    pub fn make(&self, buffers: &mut Buffers, first: &mut [f64], second: &[f64]) -> Called {
+    // Makes the call, with its buffers and its vectors at the lengths that the record says.
+    pub fn make(
+        &self,
+        buffers: &mut Buffers,
+        first: &mut [f64; 256],
+        second: &[f64; 256],
+    ) -> Called {
         let Buffers { l, u, y, z, w } = buffers;
         let l = lend(l, self.l);
         let u = lend(u, self.u);
         let y = lend(y, self.y);
         let z = lend(z, self.z);
         let w = lend(w, self.w);
+        let first = lend(first, self.first);
+        let second = &second[..usize::from(self.second)];
         let state = self.state;
         match self.function {
             Function::Push => state

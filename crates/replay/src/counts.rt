@@ -16,7 +16,7 @@ impl fmt::Display for Position {
 }
 
 // How many calls there were, how many cards between them, how many pair steps and differences, and how many answers of each number up to 23.
-#[derive(Debug, Default, Drop)]
+#[derive(Clone, Copy, Debug, Default)]
 pub struct Counts {
     calls: u64,
     cards: u64,

@@ -1,10 +1,9 @@
 // The lists of calls, one after the other.
-use crate::compare::differ;
+use crate::compare::differs_from;
 use crate::counts::{Counts, Position};
 use crate::records::{Record, Start};
-use crate::sample::{Malformed, Reader, double};
-use crate::sample_buffers::{Buffers, Factors};
-use std::alloc::{AllocError, Global};
+use crate::sample::{Malformed, Reader};
+use crate::sample_buffers::{Buffers, Factors, fill};
 use std::io;
 
 // The first word of a sample: the bytes "LUMOD 1" and a line's end.
@@ -13,7 +12,7 @@ const FIRST_WORD: u64 = 0x0A31_2044_4F4D_554C;
 // The byte where the first list starts.
 const FIRST_LIST: usize = 16;
 
-// Why a replay ends early: the sample is malformed, or a line cannot be printed or memory is short.
+// Why a replay ends early: the sample is malformed, or a line cannot be printed.
 #[derive(Debug, Drop)]
 pub enum ReplayError {
     Malformed(Malformed),
@@ -26,35 +25,25 @@ impl From<Malformed> for ReplayError {
     }
 }
 
-impl From<AllocError> for ReplayError {
-    fn from(error: AllocError) -> ReplayError {
-        ReplayError::Io(error.into())
-    }
-}
-
 impl From<io::Error> for ReplayError {
     fn from(error: io::Error) -> ReplayError {
         ReplayError::Io(error)
     }
 }
 
-// Doubles by their bits.
-fn doubles(alloc: Global, words: &[u64]) -> Result<Vec<f64>, AllocError> {
-    words.iter().map(|word| double(*word)).collect(alloc)
-}
-
 // Makes the call of a record, and compares the answer, the factors and the first vector.
 fn replay_record(
-    rt: &(impl Print + AllocGlobal),
+    rt: &impl Print,
     record: &Record<'_>,
     position: Position,
     buffers: &mut Buffers,
     counts: &mut Counts,
 ) -> io::Result<()> {
     let expected = record.expected;
-    let mut first = doubles(rt.alloc(), record.first)?;
-    let second = doubles(rt.alloc(), record.second)?;
-    let vector = doubles(rt.alloc(), expected.vector)?;
+    let mut first = [0.0; 256];
+    let mut second = [0.0; 256];
+    fill(&mut first, &mut record.first.iter());
+    fill(&mut second, &mut record.second.iter());
     let called = record.call.make(buffers, &mut first, &second);
     counts.count(&called);
     if called.answer != expected.answer {
@@ -63,7 +52,7 @@ fn replay_record(
     if buffers.differ(&expected.factors) {
         counts.note(rt, position, "other factors")?;
     }
-    if differ(&first, &vector) {
+    if differs_from(&first, expected.vector) {
         counts.note(rt, position, "another vector")?;
     }
     Ok(())
@@ -71,7 +60,7 @@ fn replay_record(
 
 // Goes on from a card: the factors are written to it and read into buffers with the next list's unused contents.
 fn resume(
-    rt: &(impl Print + AllocGlobal),
+    rt: &impl Print,
     factors: &Factors<'_>,
     position: Position,
     buffers: &mut Buffers,
@@ -87,7 +76,7 @@ fn resume(
 
 // A list: its number of calls, its capacity, its dimension, its factors and its calls. Before every third call it goes on from a card.
 fn replay_list(
-    rt: &(impl Print + AllocGlobal),
+    rt: &impl Print,
     reader: &mut Reader<'_>,
     list: u64,
     counts: &mut Counts,
@@ -110,19 +99,10 @@ fn replay_list(
     Ok(())
 }
 
-// The sample's words. Bytes after the last whole word are left out.
-fn words_of(alloc: Global, data: &[u8]) -> Result<Vec<u64>, AllocError> {
+// Replays the whole sample and says what came of it. Bytes after the last whole word are in no word.
+pub fn replay(rt: &impl Print, data: &[u8]) -> Result<(), ReplayError> {
     let (words, _) = data.as_chunks::<8>();
-    words
-        .iter()
-        .map(|word| u64::from_le_bytes(*word))
-        .collect(alloc)
-}
-
-// Replays the whole sample and says what came of it.
-pub fn replay(rt: &(impl Print + AllocGlobal), data: &[u8]) -> Result<(), ReplayError> {
-    let words = words_of(rt.alloc(), data)?;
-    let mut reader = Reader::new(&words);
+    let mut reader = Reader::new(words);
     if reader.word() != Some(FIRST_WORD) {
         return Err(Malformed { at: 0 }.into());
     }

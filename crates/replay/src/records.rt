@@ -1,7 +1,7 @@
 // Reading the sample's lists and records.
 use crate::answer::Answered;
 use crate::call::{Call, Function};
-use crate::sample::{Reader, double};
+use crate::sample::{Reader, Word, double};
 use crate::sample_buffers::{Factors, LARGEST_CAPACITY};
 use api::{ColumnIndex, LuMod, RowIndex};
 use refusals::Refusal;
@@ -28,15 +28,15 @@ impl<'a> Start<'a> {
 pub struct Expected<'a> {
     pub answer: Answered,
     pub factors: Factors<'a>,
-    pub vector: &'a [u64],
+    pub vector: &'a [Word],
 }
 
 // A record of a call with its two vectors and what is expected of it.
 #[derive(Clone, Copy)]
 pub struct Record<'a> {
     pub call: Call,
-    pub first: &'a [u64],
-    pub second: &'a [u64],
+    pub first: &'a [Word],
+    pub second: &'a [Word],
     pub expected: Expected<'a>,
 }
 
@@ -94,7 +94,7 @@ fn read_expected<'a>(
     reader: &mut Reader<'a>,
     call: &Call,
     before: Factors<'a>,
-    first: &'a [u64],
+    first: &'a [Word],
 ) -> Option<Expected<'a>> {
     let answer = read_answer(reader, call)?;
     let mut factors = before;
@@ -140,6 +140,8 @@ impl<'a> Record<'a> {
             y,
             z,
             w,
+            first,
+            second,
             state,
             row,
             column,

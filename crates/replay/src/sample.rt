@@ -18,16 +18,19 @@ impl fmt::Display for Malformed {
 
 impl Error for Malformed {}
 
+// A word as its bytes.
+pub type Word = [u8; 8];
+
 // The words of a sample, and those of them that are still to be read.
 #[derive(Drop)]
 pub struct Reader<'a> {
-    words: &'a [u64],
-    left: &'a [u64],
+    words: &'a [Word],
+    left: &'a [Word],
     ghost within: { length left.now ≤ length words.now },
 }
 
 impl<'a> Reader<'a> {
-    pub fn new(words: &'a [u64]) -> Reader<'a> {
+    pub fn new(words: &'a [Word]) -> Reader<'a> {
         Reader { words, left: words }
     }
 
@@ -40,7 +43,7 @@ impl<'a> Reader<'a> {
     pub fn word(&mut self) -> Option<u64> {
         let (word, left) = self.left.split_first()?;
         self.left = left;
-        Some(*word)
+        Some(u64::from_le_bytes(*word))
     }
 
     // A dimension, a capacity, an index or a count.
@@ -49,7 +52,7 @@ impl<'a> Reader<'a> {
     }
 
     // The next words, as many as are asked for.
-    pub fn take(&mut self, count: usize) -> Option<&'a [u64]> {
+    pub fn take(&mut self, count: usize) -> Option<&'a [Word]> {
         let (taken, left) = self.left.split_at_checked(count)?;
         self.left = left;
         Some(taken)
@@ -60,8 +63,9 @@ impl<'a> Reader<'a> {
         let before = &self.words[..self.words.len() - self.left.len()];
         let sum = before
             .iter()
-            .fold(0, |sum: u64, word| sum.wrapping_add(*word));
-        self.left == [sum].as_slice()
+            .map(|word| u64::from_le_bytes(*word))
+            .fold(0, |sum: u64, word| sum.wrapping_add(word));
+        self.left == [sum.to_le_bytes()].as_slice()
     }
 }
 

@@ -2,7 +2,7 @@
 ghost use Rattle.std.specs.Prelude.{◌≤◌};
 
 use crate::compare::differ;
-use crate::sample::{Reader, double};
+use crate::sample::{Reader, Word, double};
 use api::LuMod;
 use cards::{read_card, write_card};
 use std::{array, slice};
@@ -18,7 +18,7 @@ const LARGEST_CARD: usize = 3584;
 pub struct Factors<'a> {
     pub capacity: usize,
     pub dimension: usize,
-    words: &'a [u64],
+    words: &'a [Word],
     ghost small: { capacity ≤ 15 },
     ghost within: { dimension ≤ capacity },
 }
@@ -59,10 +59,10 @@ fn unused_start(list: u64) -> u64 {
     }
 }
 
-// Puts the next words into a row.
-fn fill(row: &mut [f64], words: &mut slice::Iter<'_, u64>) {
+// Puts the next words into a row, as many as both have.
+pub fn fill(row: &mut [f64], words: &mut slice::Iter<'_, Word>) {
     for (entry, word) in row.iter_mut().zip(words) {
-        *entry = double(*word);
+        *entry = double(u64::from_le_bytes(*word));
     }
 }
 
