@@ -63,14 +63,19 @@ module _ (F : Format) {c : Call Float} {s : Instance Float} {v : StateValue} {k 
     out = out;
   }
 
-  pub returned_staying : keeps_dimension c ≡ true → Returned F c s (instance (state_value s.n s.c v.counter) l u y z w) b k Out number
+  -- where the dimension stays
+  pub returned_staying : (accepted (ieee F) (managed_epsilon F) (managed_tiny F) (view (ieee F) s) c).after.n ≡ s.n
+      → Returned F c s (instance (state_value s.n s.c v.counter) l u y z w) b k Out number
   returned_staying e =
       subst (λ (m : ℕ). Returned F c s (instance (state_value m s.c v.counter) l u y z w) b k Out number)
-      (dimension_stays (ieee F) (managed_epsilon F) (managed_tiny F) (dimension_kept (ieee F) (managed_epsilon F) (managed_tiny F) c s e) o) returned
+      (dimension_stays (ieee F) (managed_epsilon F) (managed_tiny F) e o) returned
+
+  pub returned_keeping : keeps_dimension c ≡ true → Returned F c s (instance (state_value s.n s.c v.counter) l u y z w) b k Out number
+  returned_keeping e = returned_staying (dimension_kept (ieee F) (managed_epsilon F) (managed_tiny F) c s e)
 
 -- a solve, at whatever counter the host keeps
 pub returned_solved : (F : Format) {c : Call Float} {s : Instance Float} {v : StateValue} {k number : ℕ} {l u y z w b : List Float} {a : Answer} {Out : Answer → Type 0}
     → ManagedOutcome F c s (instance v l u y z w) (report a b k) → number ≡ number_of a → Out a → is_update c ≡ false
     → (m : ℕ) → Returned F c (with_counter m s) (instance (state_value s.n s.c m) l u y z w) b k Out number
 returned_solved F o is_number out solves m =
-    returned_staying F (solve_at_any (ieee F) (managed_epsilon F) (managed_tiny F) o solves m) is_number out (solve_keeps _ solves)
+    returned_keeping F (solve_at_any (ieee F) (managed_epsilon F) (managed_tiny F) o solves m) is_number out (solve_keeps _ solves)

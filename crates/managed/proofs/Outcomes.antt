@@ -48,6 +48,12 @@ module _ (N : NumberForm) (E T : N.Value) (c : Call N.Value) (s : Instance N.Val
     frame = λ _. framed;
   }
 
+-- the state and the report after it may be written another way
+pub outcome_as : (N : NumberForm) (E T : N.Value) {c : Call N.Value} {s : Instance N.Value} {v v' : StateValue} {l u y z w : List N.Value} {r r' : Report N.Value} → v ≡ v' → r ≡ r'
+    → Outcome N E T c s (instance v' l u y z w) r' → Outcome N E T c s (instance v l u y z w) r
+outcome_as N E T {c} {s} {v} {v'} {l} {u} {y} {z} {w} {r} {r'} e f o =
+    subst (λ (q : Report N.Value). Outcome N E T c s (instance v l u y z w) q) (sym f) (subst (λ (q : StateValue). Outcome N E T c s (instance q l u y z w) r') (sym e) o)
+
 -- ---- an update that is carried out on storage
 
 module _ (N : NumberForm) (E T : N.Value) (call : Call N.Value) (v : StateValue) (l u y z w : List N.Value) where

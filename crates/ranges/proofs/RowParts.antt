@@ -1,6 +1,7 @@
 -- Parts of a row of the packed triangle U, and their places.
 use mathlib.Core.Path.{◌≡◌, sym, ap, ◌∙◌}
 use mathlib.Core.Bool.{not, ◌&&◌}
+use mathlib.Core.Logic.{◌⊎◌, inl, inr}
 use Prim.Native.Nat.{ℕ, ◌+◌, ◌-◌, ◌≤◌, ◌<◌}
 use native.Mathlib.Decide.{dec_lt}
 use native.Mathlib.Omega.{arith}
@@ -37,3 +38,11 @@ pub left_out : (row columns i j : ℕ) → So (not (eqb i row && (leb row j && l
 left_out row columns i j s k h e f =
     T_not (eqb i row && (leb row j && ltb j columns)) s
     (and_i (eqb i row) (leb row j && ltb j columns) (eq→eqb e) (and_i (leb row j) (ltb j columns) (le→leb row j (omega arith)) (lt→ltb j columns (omega arith))))
+
+-- two ranges of one length have no place in common, whichever is the earlier
+pub ranges_apart : (x y n : ℕ) → (y < x + n → y + n ≤ x) → (x + n ≤ y) ⊎ (y + n ≤ x)
+ranges_apart x y n h = go (dec_lt y (x + n))
+  where
+    go : Dec (y < x + n) → (x + n ≤ y) ⊎ (y + n ≤ x)
+    go (yes a) = inr (h a)
+    go (no a) = inl (omega arith)

@@ -1,4 +1,4 @@
--- Vectors at the front of a slice: what is written there, under another name, whole, in one entry, or over what was written before.
+-- Vectors at the front of a slice: what is written there, under another name, in parts, whole, in one entry, or over what was written before.
 use mathlib.Core.Path.{◌≡◌, refl, sym, ap, ◌∙◌}
 use mathlib.Core.List.{List}
 use Prim.Native.Nat.{ℕ, ◌≤◌, ◌<◌}
@@ -31,6 +31,10 @@ module _ (N : NumberForm) where
   -- written over
   pub written_over : {place : ℕ → ℕ} {n : ℕ} {f g : Vector Value} {a b c : List Value} → Written N place n f a b → Written N place n g b c → Written N place n g a c
   written_over h g = record { value = g.value; kept = kept_then N h.kept g.kept }
+
+  -- further entries of one vector
+  pub written_further : {m n : ℕ} {f : Vector Value} {a b c : List Value} → m ≤ n → Written N (λ i. i) m f a b → Written N (λ i. i) n f b c → Written N (λ i. i) n f a c
+  written_further l h g = record { value = g.value; kept = kept_then N (kept_more N (λ q w. (w.0, omega arith, w.2)) h.kept) g.kept }
 
   -- a slice that is written whole, with the entries of another
   pub written_whole : {n : ℕ} {a b xs : List Value} → n ≡ length a → length xs ≡ length a → Written N (λ i. i) n (entry N xs) a b → b ≡ xs

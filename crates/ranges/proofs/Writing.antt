@@ -7,16 +7,20 @@ use native.Mathlib.Numerals.{add-one}
 use native.Mathlib.Omega.{arith}
 use lib.ListN.{length, set, length-set}
 use lib.Seq.{get_or-set_same, get_or-set_other}
-use borrow.Author.Count.{below_more}
+use borrow.Author.Count.{below_none, below_more}
 use Rattle.numbers.specs.NumberForm.{NumberForm}
 use Rattle.machine.specs.Tables.{Vector}
 use Rattle.machine.specs.Products.{entry, sum}
-use Rattle.ranges.specs.Written.{Written}
+use Rattle.storage.proofs.Kept.{kept_all}
+use Rattle.ranges.specs.Written.{from, Written}
 
 module _ (N : NumberForm) where
   open N use {Value, zero as 𝟎, absent, add}
 
   module _ {place : ℕ → ℕ} {f : Vector Value} where
+    pub written_none : {l : List Value} → Written N place 0 f l l
+    written_none {l} = record { value = below_none (λ k. entry N l (place k) ≡ f k); kept = kept_all N }
+
     -- no earlier place is stored to again
     module _ {k : ℕ} {old l : List Value} (apart : (j : ℕ) → j < k → place j ≢ place k) (done : Written N place k f old l) where
       -- the place that is next still holds what it held
@@ -35,7 +39,10 @@ module _ (N : NumberForm) where
         };
       }
 
-  -- places of a vector are apart
+  -- places of a range are apart, and those of a vector
+  pub range_apart : (start k j : ℕ) → j < k → from start j ≢ from start k
+  range_apart start k j h e = omega arith
+
   pub apart : (k j : ℕ) → j < k → j ≢ k
   apart k j h e = omega arith
 

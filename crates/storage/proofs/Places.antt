@@ -1,17 +1,22 @@
 -- Every entry has its place within its buffer, and no two entries share one.
 use mathlib.Core.Path.{◌≡◌, refl, ap, subst}
 use mathlib.Core.Logic.{◌≢◌}
-use Prim.Native.Nat.{ℕ, zero, suc, ◌+◌, ◌-◌, ◌*◌, ◌/◌, ◌≤◌, ◌<◌}
+use Prim.Native.Nat.{ℕ, zero, suc, ◌+◌, ◌-◌, ◌*◌, ◌/◌, ◌^◌, ◌≤◌, ◌<◌}
 use native.Mathlib.Nat.{mul-le-mul_right, mul-le-mul_left, add-zero, add-suc}
 use native.Mathlib.Omega.{arith}
 use native.Mathlib.Decide.{dec_lt}
 use Rattle.storage.specs.Places.{l_length, u_length, l_index, work_index, u_index}
+use Rattle.storage.proofs.Lengths.{length_fits}
 
 -- ---- L and the solve work behind it
 
 -- a row ends before a later one starts, and the last before the solve work
 pub row_before : (c i p : ℕ) → i < p → i * c + c ≤ p * c
 row_before c i p h = omega (arith, mul-le-mul_right {m = suc i} {n = p} c h)
+
+-- a whole row of L, with what may be added to it
+pub row_fits : (c i : ℕ) → i < c → c < 2 ^ 32 → i * c + c < 2 ^ 64
+row_fits c i hi hc = omega (arith, row_before c i c hi, length_fits c hc)
 
 pub l_index_within : (c i j : ℕ) → i < c → j < c → l_index c i j < c * c
 l_index_within c i j hi hj = omega (arith, row_before c i c hi)
@@ -80,6 +85,10 @@ pub rows_end : (c : ℕ) → row_start c c ≡ u_length c
 unfolding row_start
 rows_end zero = refl
 rows_end (suc c) = rw suc_pred (omega (arith, triangle_even c))
+
+pub u_index_row_0 : (c j : ℕ) → u_index c 0 j ≡ j
+unfolding u_index
+u_index_row_0 c j = omega arith
 
 pub u_index_is : (c i j : ℕ) → i ≤ j → j < c → u_index c i j ≡ row_start c i + (j - i)
 unfolding row_start u_index

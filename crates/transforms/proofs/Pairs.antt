@@ -1,8 +1,8 @@
--- One more turn of a loop that transforms pairs; and pairs of which one part of a slice holds the firsts and another the seconds.
+-- One more turn of a loop that transforms pairs of two slices; and pairs of which one part of a slice holds the firsts and another the seconds.
 use mathlib.Core.Path.{◌≡◌, refl, sym, ◌∙◌}
 use mathlib.Core.Bool.{Bool}
 use mathlib.Core.List.{List}
-use mathlib.Core.Logic.{◌⊎◌, inl, inr, ⊎_elim}
+use mathlib.Core.Logic.{◌≢◌, ◌⊎◌, inl, inr, ⊎_elim}
 use Prim.Native.Nat.{ℕ, ◌+◌, ◌-◌, ◌≤◌, ◌<◌}
 use native.Mathlib.Decide.{dec_lt}
 use native.Mathlib.Omega.{arith}
@@ -17,7 +17,7 @@ use Rattle.machine.specs.Products.{entry}
 use Rattle.storage.specs.Views.{Kept}
 use Rattle.storage.proofs.Kept.{kept_more}
 use Rattle.ranges.specs.Written.{from, Among, Written}
-use Rattle.ranges.proofs.Writing.{unwritten, apart, written_more}
+use Rattle.ranges.proofs.Writing.{unwritten, range_apart, apart, written_more}
 use Rattle.ranges.proofs.Parts.{part, part_long, part_entry, part_written}
 use Rattle.transforms.specs.RowsTransformed.{RowsTransformed, SlicesTransformed}
 
@@ -26,22 +26,35 @@ module _ (N : NumberForm) where
 
   -- ---- pairs of two slices
 
-  module _ (swap : Bool) (m : Value) (k : ℕ) (xs₀ ys₀ : List Value) {xs ys : List Value}
-      (dx : Written N (λ j. j) k (λ j. first N swap (entry N xs₀ j) (entry N ys₀ j)) xs₀ xs)
-      (dy : Written N (λ j. j) k (λ j. second N swap m (entry N xs₀ j) (entry N ys₀ j)) ys₀ ys) where
-    old_x : entry N xs k ≡ entry N xs₀ k
-    old_x = unwritten N (apart N k) dx
+  -- xs stores the firsts at the places p, and ys the seconds at the places q
+  module _ (swap : Bool) (m : Value) (p q : ℕ → ℕ) (k : ℕ) (xs₀ ys₀ : List Value) {xs ys : List Value} (apart-p : (j : ℕ) → j < k → p j ≢ p k) (apart-q : (j : ℕ) → j < k → q j ≢ q k)
+      (dx : Written N p k (λ j. first N swap (entry N xs₀ (p j)) (entry N ys₀ (q j))) xs₀ xs)
+      (dy : Written N q k (λ j. second N swap m (entry N xs₀ (p j)) (entry N ys₀ (q j))) ys₀ ys) where
+    old_x : entry N xs (p k) ≡ entry N xs₀ (p k)
+    old_x = unwritten N apart-p dx
 
-    old_y : entry N ys k ≡ entry N ys₀ k
-    old_y = unwritten N (apart N k) dy
+    old_y : entry N ys (q k) ≡ entry N ys₀ (q k)
+    old_y = unwritten N apart-q dy
 
-    pub firsts_more : {a : Value} → k < length xs → a ≡ first N swap (entry N xs k) (entry N ys k)
-        → Written N (λ j. j) (k + 1) (λ j. first N swap (entry N xs₀ j) (entry N ys₀ j)) xs₀ (set xs k a)
-    firsts_more fits e = written_more N (apart N k) dx fits (e ∙ (λ i. first N swap (old_x i) (old_y i)))
+    pub first_stored : {a : Value} → p k < length xs → a ≡ first N swap (entry N xs (p k)) (entry N ys (q k))
+        → Written N p (k + 1) (λ j. first N swap (entry N xs₀ (p j)) (entry N ys₀ (q j))) xs₀ (set xs (p k) a)
+    first_stored fits e = written_more N apart-p dx fits (e ∙ (λ i. first N swap (old_x i) (old_y i)))
 
-    pub seconds_more : {b : Value} → k < length ys → b ≡ second N swap m (entry N xs k) (entry N ys k)
-        → Written N (λ j. j) (k + 1) (λ j. second N swap m (entry N xs₀ j) (entry N ys₀ j)) ys₀ (set ys k b)
-    seconds_more fits e = written_more N (apart N k) dy fits (e ∙ (λ i. second N swap m (old_x i) (old_y i)))
+    pub second_stored : {b : Value} → q k < length ys → b ≡ second N swap m (entry N xs (p k)) (entry N ys (q k))
+        → Written N q (k + 1) (λ j. second N swap m (entry N xs₀ (p j)) (entry N ys₀ (q j))) ys₀ (set ys (q k) b)
+    second_stored fits e = written_more N apart-q dy fits (e ∙ (λ i. second N swap m (old_x i) (old_y i)))
+
+  -- pairs of xs from x on and of ys from y on
+  module _ (swap : Bool) (m : Value) (x y k : ℕ) (xs₀ ys₀ : List Value) {xs ys : List Value}
+      (dx : Written N (from x) k (λ j. first N swap (entry N xs₀ (x + j)) (entry N ys₀ (y + j))) xs₀ xs)
+      (dy : Written N (from y) k (λ j. second N swap m (entry N xs₀ (x + j)) (entry N ys₀ (y + j))) ys₀ ys) where
+    pub firsts_more : {a : Value} → x + k < length xs → a ≡ first N swap (entry N xs (x + k)) (entry N ys (y + k))
+        → Written N (from x) (k + 1) (λ j. first N swap (entry N xs₀ (x + j)) (entry N ys₀ (y + j))) xs₀ (set xs (x + k) a)
+    firsts_more fits e = first_stored swap m (from x) (from y) k xs₀ ys₀ (range_apart N x k) (range_apart N y k) dx dy fits e
+
+    pub seconds_more : {b : Value} → y + k < length ys → b ≡ second N swap m (entry N xs (x + k)) (entry N ys (y + k))
+        → Written N (from y) (k + 1) (λ j. second N swap m (entry N xs₀ (x + j)) (entry N ys₀ (y + j))) ys₀ (set ys (y + k) b)
+    seconds_more fits e = second_stored swap m (from x) (from y) k xs₀ ys₀ (range_apart N x k) (range_apart N y k) dx dy fits e
 
   -- ---- parts that are lent, of xs from x on and of ys from y on
 
