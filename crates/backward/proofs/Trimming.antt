@@ -13,32 +13,6 @@ use Rattle.machine.specs.Products.{entry}
 use Rattle.machine.specs.Backward.{negligible, trim}
 use Rattle.ranges.proofs.Parts.{part, part_long, part_entry}
 
--- ---- one turn, and the two ways it ends
-
-module _ (N : NumberForm) (E : N.Value) (v : Vector N.Value) (start : ℕ) where
-  open N use {Value, abs, le}
-
-  small : {a : Value} {r : Bool} (s : ℕ) → a ≡ abs (v s) → le a E ≡ r → negligible N E (v s) ≡ r
-  unfolding negligible
-  small s e g = (λ t. le (sym e t) E) ∙ g
-
-  pub trim_more : {a : Value} (s : ℕ) → start < s → a ≡ abs (v s) → le a E ≡ true → trim N E start (s - 1) v ≡ trim N E start s v
-  unfolding trim
-  trim_more zero h e g = absurd (omega arith)
-  trim_more (suc s) h e g = let q : suc s - 1 ≡ s = omega arith in rw (q, lt-ltb start (suc s) h, small (suc s) e g)
-
-  pub trim_ends : {a : Value} (s : ℕ) → start < s → a ≡ abs (v s) → le a E ≡ false → s ≡ trim N E start s v
-  unfolding trim
-  trim_ends zero h e g = refl
-  trim_ends (suc s) h e g = rw (lt-ltb start (suc s) h, small (suc s) e g)
-
-  pub trim_at_start : (s : ℕ) → s ≤ start → s ≡ trim N E start s v
-  unfolding trim
-  trim_at_start zero h = refl
-  trim_at_start (suc s) h = rw (le-ltb start (suc s) h)
-
--- ---- the search from the back
-
 -- s is start, or its entry is not negligible
 module _ (N : NumberForm) (E : N.Value) (v : Vector N.Value) (start s : ℕ) (ends : start < s → negligible N E (v s) ≡ false) where
   trim_stays : (last : ℕ) → s ≡ last → s ≡ trim N E start last v
@@ -61,6 +35,28 @@ module _ (N : NumberForm) (E : N.Value) (v : Vector N.Value) (start s : ℕ) (en
         rw (lt-ltb start (suc last) (omega arith), here) (trim_reaches last h (omega arith) (λ k a b. passed k a (omega arith)))
     | no l ↦ trim_stays (suc last) (omega arith)
   ]
+
+-- ---- one turn, and the two ways it ends
+
+module _ (N : NumberForm) (E : N.Value) (v : Vector N.Value) (start : ℕ) where
+  open N use {Value, abs, le}
+
+  small : {a : Value} {r : Bool} (s : ℕ) → a ≡ abs (v s) → le a E ≡ r → negligible N E (v s) ≡ r
+  unfolding negligible
+  small s e g = (λ t. le (sym e t) E) ∙ g
+
+  pub trim_more : {a : Value} (s : ℕ) → start < s → a ≡ abs (v s) → le a E ≡ true → trim N E start (s - 1) v ≡ trim N E start s v
+  unfolding trim
+  trim_more zero h e g = absurd (omega arith)
+  trim_more (suc s) h e g = let q : suc s - 1 ≡ s = omega arith in rw (q, lt-ltb start (suc s) h, small (suc s) e g)
+
+  pub trim_ends : {a : Value} (s : ℕ) → start < s → a ≡ abs (v s) → le a E ≡ false → s ≡ trim N E start s v
+  trim_ends s h e g = trim_stays N E v start s (λ l. small s e g) s refl
+
+  pub trim_at_start : (s : ℕ) → s ≤ start → s ≡ trim N E start s v
+  trim_at_start s h = trim_stays N E v start s (λ l. absurd (omega arith)) s refl
+
+-- ---- the search from the back
 
 -- the part of v above start, up to `last`
 module _ (N : NumberForm) (E : N.Value) (v : List N.Value) (start last : ℕ) (ordered : start ≤ last) (fits : last < length v) where

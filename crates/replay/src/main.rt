@@ -25,7 +25,8 @@ fn zeros() -> [u8; 1048576]
     [0; 1048576]
 }
 
-// Reads until `data` is full or the file ends, and says how many bytes that were. A read that a signal interrupts is tried again.
+// Reads until `data` is full or the file ends, and says how many bytes that were. A read that a signal interrupts is tried again; the bound on how often
+// is there since every loop has an end.
 fn read_full(file: &mut File, data: &mut [u8]) -> io::Result<usize>
     ensures { IfOk result (λ n. n ≤ length «data».old) }
 {

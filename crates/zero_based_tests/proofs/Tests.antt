@@ -1,5 +1,5 @@
 -- What is known where the zero-based calls' tests refuse nothing.
-use mathlib.Core.Path.{◌≡◌, refl, subst}
+use mathlib.Core.Path.{◌≡◌, subst}
 use mathlib.Core.Bool.{Bool, true, false, ◌||◌, ◌&&◌}
 use Prim.Native.Nat.{ℕ, ◌*◌, ◌≤◌, ◌<◌}
 use native.Mathlib.Decide.{ℕ_discrete}
@@ -7,13 +7,10 @@ use native.Mathlib.Omega.{arith}
 use lib.Dec.{T as So, ltb, eqb}
 use lib.IntN.{ℤ, pos, negsuc}
 use borrow.Author.Tests.{leb-false, ltb-false, eq-eqb, eqb-false}
+use Rattle.std.proofs.lemmas.Bool.{or_parts}
 use Rattle.storage.specs.Places.{u_length}
 use Rattle.host_numbers.specs.Numbers.{size_of, outside}
 use Rattle.zero_based_tests.specs.Refusals.{index_outside, passed_over, update_lacks_room, product_lacks_room, solve_lacks_room}
-
-both_false : (a b : Bool) → (a || b) ≡ false → (a ≡ false) × (b ≡ false)
-both_false true b e = absurd (subst So e tt)
-both_false false b e = (refl, e)
 
 -- ---- the mode, the dimension and the indices
 
@@ -43,10 +40,10 @@ pub record Passed (mode n : ℕ) (krow kcol : ℤ) : Type 0 where
 pub passed : (mode n : ℕ) (krow kcol : ℤ) → passed_over mode n krow kcol ≡ false → Passed mode n krow kcol
 unfolding passed_over
 passed mode n krow kcol e =
-    let a = both_false (eqb n 0) _ e in
-    let b = both_false (ltb mode 1) _ a.1 in
-    let c = both_false (ltb 4 mode) _ b.1 in
-    let d = both_false (index_outside mode 3 krow n) (index_outside mode 2 kcol n) c.1 in
+    let a = or_parts (eqb n 0) _ e in
+    let b = or_parts (ltb mode 1) _ a.1 in
+    let c = or_parts (ltb 4 mode) _ b.1 in
+    let d = or_parts (index_outside mode 3 krow n) (index_outside mode 2 kcol n) c.1 in
     let most : mode ≤ 4 = ltb-false 4 mode c.0 in
     record {
       dimension = omega (arith, eqb-false n 0 a.0);
@@ -62,24 +59,24 @@ passed mode n krow kcol e =
 pub update_room : (n c l u y z w : ℕ) → update_lacks_room n c l u y z w ≡ false → (n ≤ c) × (c * c ≤ l) × (u_length c ≤ u) × (n ≤ y) × (n ≤ z) × (n ≤ w)
 unfolding update_lacks_room
 update_room n c l u y z w e =
-    let p = both_false _ _ e in
-    let q = both_false _ _ p.1 in
-    let r = both_false _ _ q.1 in
-    let s = both_false _ _ r.1 in
-    let t = both_false _ _ s.1 in
+    let p = or_parts _ _ e in
+    let q = or_parts _ _ p.1 in
+    let r = or_parts _ _ q.1 in
+    let s = or_parts _ _ r.1 in
+    let t = or_parts _ _ s.1 in
     (ltb-false _ _ p.0, ltb-false _ _ q.0, ltb-false _ _ r.0, ltb-false _ _ s.0, ltb-false _ _ t.0, ltb-false _ _ t.1)
 
 pub product_room : (n c l y z : ℕ) → product_lacks_room n c l y z ≡ false → (n ≤ c) × (c * c ≤ l) × (n ≤ y) × (n ≤ z)
 unfolding product_lacks_room
 product_room n c l y z e =
-    let p = both_false _ _ e in
-    let q = both_false _ _ p.1 in
-    let r = both_false _ _ q.1 in
+    let p = or_parts _ _ e in
+    let q = or_parts _ _ p.1 in
+    let r = or_parts _ _ q.1 in
     (ltb-false _ _ p.0, ltb-false _ _ q.0, ltb-false _ _ r.0, ltb-false _ _ r.1)
 
 pub solve_room : (n c u y : ℕ) → solve_lacks_room n c u y ≡ false → (n ≤ c) × (u_length c ≤ u) × (n ≤ y)
 unfolding solve_lacks_room
 solve_room n c u y e =
-    let p = both_false _ _ e in
-    let q = both_false _ _ p.1 in
+    let p = or_parts _ _ e in
+    let q = or_parts _ _ p.1 in
     (ltb-false _ _ p.0, ltb-false _ _ q.0, ltb-false _ _ q.1)
